@@ -1,0 +1,21 @@
+-- `timing::walk::figures_of` meets its contract.
+-- Assumes nothing.
+use borrow.Author.Needs.{needs}
+use Rattle.timing.proofs.WalkCode.{figures-by}
+use Rattle.timing.proofs.walk.figures_of.Statement.{statement}
+use Rattle.timing.proofs.walk.figures_of.Tie as tie
+
+opens-requires : tie.Need-opens-requires
+opens-requires c κs = search needs
+
+last-call-requires : tie.Need-last-call-requires
+last-call-requires c κs = search needs
+
+room-requires : tie.Need-room-requires
+room-requires c κs = search needs
+
+returns : tie.Need-returns
+returns c = figures-by _ _ _ _ _ _ _ (c .before .before .opens .ensures) (c .before .last-call .ensures) (c .room .ensures)
+
+pub figures-of-spec : {M : Type 1} → statement M
+figures-of-spec = tie.close (tie.spec opens-requires last-call-requires room-requires returns)

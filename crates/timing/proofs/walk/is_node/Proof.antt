@@ -1,0 +1,13 @@
+-- `timing::walk::is_node` meets its contract.
+-- Assumes nothing.
+use mathlib.Core.Path.{refl}
+use Rattle.units.specs.Limits.{mostNodes}
+use Rattle.timing.proofs.walk.is_node.Statement.{statement}
+use Rattle.timing.proofs.walk.is_node.Tie as tie
+
+returns : tie.Need-returns
+unfolding mostNodes
+returns c = refl
+
+pub is-node-spec : {M : Type 1} → statement M
+is-node-spec = tie.close (tie.spec returns)

@@ -1,0 +1,96 @@
+-- Chains of contacts, as 'Timing a chain' of the request has them. A chain is a list of contact numbers.
+--     Carries         a chain carries the file from a node and a time to a node and a time
+--     Allowed         it is allowed for an ask, and when it delivers; InTime
+--     IsLastCall, IsRoom, HasFigures      what is said of an allowed chain in time
+-- Assumes nothing.
+use mathlib.Core.Bool.{false}
+use mathlib.Core.List.{List, [], _∷_}
+use mathlib.Core.Path.{_≡_}
+use Prim.Native.Nat.{ℕ, _≤_, _<_, _-_}
+use lib.ListN.{length, getD}
+use Rattle.units.specs.Limits.{mostSize}
+use Rattle.units.specs.declared.Ask.{Ask}
+use Rattle.plan.specs.declared.rows.Contact.{Contact}
+use Rattle.plan.specs.Light.{lightOf}
+use Rattle.plan.specs.Plan.{Plan}
+use Rattle.timing.specs.declared.arrival.Arrival.the-variants.{Ready}
+use Rattle.timing.specs.declared.figures.Figures.{Figures}
+use Rattle.timing.specs.Hop.{hopped, startOn, isBarred}
+
+-- a contact that stands nowhere, for numbers that name none
+abbrev pub blank : Contact
+blank = record { start = record { 0 = 0 }; end = record { 0 = 0 }; from = record { 0 = 0 }; to = record { 0 = 0 }; rate = 0 }
+
+-- the contact of a number: contacts are numbered from 1
+abbrev pub contactOf : Plan → ℕ → Contact
+contactOf p c = getD (p .contacts) (c - 1) blank
+
+-- the number names a contact of the plan
+pub record InPlan (p : Plan) (c : ℕ) : Type 0 where
+  pub least : 1 ≤ c
+  pub most : c ≤ length (p .contacts)
+
+-- The file, ready at node u at time t, is carried by the chain to node v and is ready there at time r: each contact is from the node where the
+-- file is, is not barred, is ranged and fits.
+pub data Carries (p : Plan) (ask : Ask) : ℕ → ℕ → List ℕ → ℕ → ℕ → Type 0 where
+  stays : {u t : ℕ} → Carries p ask u t [] u t
+  hops : {u t s v r c : ℕ} {cs : List ℕ}
+      → InPlan p c
+      → contactOf p c .from .0 ≡ u
+      → isBarred ask (contactOf p c) ≡ false
+      → hopped (lightOf (p .ranges) (contactOf p c)) (contactOf p c) (ask .size) t ≡ Ready (record { 0 = s })
+      → Carries p ask (contactOf p c .to .0) s cs v r
+      → Carries p ask u t (c ∷ cs) v r
+
+-- the chain is allowed for the ask, and delivers at r: at least one contact, from the source to the destination
+pub record Allowed (p : Plan) (ask : Ask) (chain : List ℕ) (r : ℕ) : Type 0 where
+  pub some-contact : 1 ≤ length chain
+  pub carried : Carries p ask (ask .source .0) (ask .time .0) chain (ask .destination .0) r
+
+-- it is allowed, and delivers below the deadline
+pub record InTime (p : Plan) (ask : Ask) (chain : List ℕ) : Type 0 where
+  pub delivery : ℕ
+  pub allowed : Allowed p ask chain delivery
+  pub early : delivery < ask .deadline .0
+
+-- the same ask at another time, and for another size
+abbrev pub askAt : Ask → ℕ → Ask
+askAt ask t = record {
+  source = ask .source;
+  destination = ask .destination;
+  time = record { 0 = t };
+  size = ask .size;
+  deadline = ask .deadline;
+  excluded = ask .excluded;
+}
+
+abbrev pub askOf : Ask → ℕ → Ask
+askOf ask n = record {
+  source = ask .source;
+  destination = ask .destination;
+  time = ask .time;
+  size = n;
+  deadline = ask .deadline;
+  excluded = ask .excluded;
+}
+
+-- the greatest time, not before the ask's, from which the same chain is still allowed and in time
+pub record IsLastCall (p : Plan) (ask : Ask) (chain : List ℕ) (t : ℕ) : Type 0 where
+  pub not-before : ask .time .0 ≤ t
+  pub still : InTime p (askAt ask t) chain
+  pub greatest : (s : ℕ) → ask .time .0 ≤ s → InTime p (askAt ask s) chain → s ≤ t
+
+-- the greatest size up to 1,000,000,000 that the same chain, from the ask's time, carries in time
+pub record IsRoom (p : Plan) (ask : Ask) (chain : List ℕ) (n : ℕ) : Type 0 where
+  pub most : n ≤ mostSize
+  pub carried : InTime p (askOf ask n) chain
+  pub greatest : (m : ℕ) → m ≤ mostSize → InTime p (askOf ask m) chain → m ≤ n
+
+-- the figures of an allowed chain in time
+pub record HasFigures (p : Plan) (ask : Ask) (chain : List ℕ) (f : Figures) : Type 0 where
+  pub allowed : Allowed p ask chain (f .delivery .0)
+  pub in-time : f .delivery .0 < ask .deadline .0
+  -- the start on the first contact
+  pub opens : f .opens .0 ≡ startOn (contactOf p (getD chain 0 0)) (ask .time .0)
+  pub last-call : IsLastCall p ask chain (f .«last_call» .0)
+  pub room : IsRoom p ask chain (f .room)

@@ -1,0 +1,5 @@
+pub mod Bounds
+pub mod Chain
+pub mod Hop
+pub mod Model
+pub mod Walk
