@@ -1,0 +1,13 @@
+-- Laws and theorems of plan text, the top ones in Theorems.
+pub mod Capped
+pub mod Cuts
+pub mod Digits
+pub mod Faults
+pub mod Lines
+pub mod Members
+pub mod Reading
+pub mod RowFaults
+pub mod Rows
+pub mod Shapes
+pub mod Short
+pub mod Theorems

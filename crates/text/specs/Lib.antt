@@ -1,0 +1,5 @@
+pub mod Digits
+pub mod Lines
+pub mod Model
+pub mod Reading
+pub mod Rows
