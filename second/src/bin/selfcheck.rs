@@ -1,0 +1,34 @@
+//! Checks the second program against itself and against document 01.
+//!
+//! selfcheck [--seed N] [--rounds N]
+
+use std::process::ExitCode;
+
+use second::checks::{all, tally::Tally};
+use second::options::Options;
+
+fn main() -> ExitCode {
+    let (seed, rounds) = match settings() {
+        Ok(settings) => settings,
+        Err(message) => {
+            eprintln!("{message}\nusage: selfcheck [--seed N] [--rounds N]");
+            return ExitCode::from(2);
+        }
+    };
+    let mut tally = Tally::default();
+    all(seed, rounds, &mut tally);
+    println!("seed {seed}, {rounds} rounds");
+    tally.print();
+    match tally.differences() {
+        0 => ExitCode::SUCCESS,
+        _ => ExitCode::FAILURE,
+    }
+}
+
+fn settings() -> Result<(u64, u64), String> {
+    let mut options = Options::of_command_line();
+    let seed = options.number("--seed", 1)?;
+    let rounds = options.number("--rounds", 2000)?;
+    options.finish()?;
+    Ok((seed, rounds))
+}

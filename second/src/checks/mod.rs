@@ -1,0 +1,42 @@
+//! The checks of the second program against itself and against document 01.
+
+pub mod figures;
+pub mod routes;
+pub mod tables;
+pub mod tally;
+pub mod texts;
+pub mod walks;
+
+use crate::random::Random;
+use tally::Tally;
+
+/// Makes every check; those on random cases so many times.
+pub fn all(seed: u64, rounds: u64, tally: &mut Tally) {
+    figures::check(tally);
+    walks::check_long_chains(tally);
+    for round in 0..rounds {
+        let random = &mut Random::for_case(seed, round);
+        routes::check_small(random, tally);
+        routes::check_limits_of_call(random, tally);
+        walks::check(random, tally);
+        texts::check_damaged(random, round, tally);
+        tables::check(random, tally);
+        if round.is_multiple_of(5) {
+            routes::check_large(random, round / 5, tally);
+            texts::check_round_trip(random, round / 5, tally);
+        }
+        tally.show_progress(round + 1, rounds);
+    }
+}
+
+#[cfg(test)]
+mod tests {
+    use super::{all, tally::Tally};
+
+    #[test]
+    fn all_checks_hold() {
+        let mut tally = Tally::default();
+        all(1, 60, &mut tally);
+        assert_eq!(tally.differences(), 0);
+    }
+}

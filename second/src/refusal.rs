@@ -1,0 +1,37 @@
+//! A refusal, and the names of document 01's numbers.
+
+/// Why a call refuses: document 01's number, and the place that goes with it.
+#[derive(Clone, Copy, Debug, PartialEq, Eq)]
+pub struct Refusal {
+    pub number: u64,
+    pub place: u64,
+}
+
+impl Refusal {
+    pub const fn new(number: u64, place: u64) -> Self {
+        Self { number, place }
+    }
+
+    /// A refusal that has no place.
+    pub const fn bare(number: u64) -> Self {
+        Self::new(number, 0)
+    }
+}
+
+pub const TEXT_TOO_LONG: u64 = 1;
+pub const HEADER: u64 = 2;
+pub const LINE_SHAPE: u64 = 3;
+pub const VALUE: u64 = 4;
+pub const CONTACT_AFTER_RANGE: u64 = 5;
+pub const TOO_MANY_ROWS: u64 = 6;
+pub const OVERLAP: u64 = 7;
+pub const SHORT_TABLES: u64 = 8;
+pub const NO_VALID_PLAN: u64 = 9;
+pub const SHORT_OUTPUT: u64 = 10;
+pub const ASK_VALUE: u64 = 11;
+pub const SOURCE_IS_DESTINATION: u64 = 12;
+pub const NO_ALLOWED_CHAIN: u64 = 13;
+pub const NOT_IN_TIME: u64 = 14;
+pub const SHORT_CHAIN: u64 = 15;
+pub const CHAIN_NOT_ALLOWED: u64 = 16;
+pub const ASK_SHAPE: u64 = 17;

@@ -1,0 +1,181 @@
+//! The timing of a chain: hops, the four figures, and the call `walk`.
+
+use crate::ask::{Ask, GoodAsk};
+use crate::plan::{Contact, Plan};
+use crate::refusal::{Refusal, CHAIN_NOT_ALLOWED, NOT_IN_TIME};
+use crate::units::{ContactNo, Millis, LARGEST_SIZE};
+
+/// What is said of an allowed chain in time.
+#[derive(Clone, Copy, Debug, PartialEq, Eq)]
+pub struct Figures {
+    pub delivery: u64,
+    pub opens: u64,
+    pub last_call: u64,
+    pub room: u64,
+}
+
+/// The figures of a given chain of contact numbers.
+pub fn walk(
+    contacts: &[u64],
+    contact_count: u64,
+    ranges: &[u64],
+    range_count: u64,
+    ask: Ask,
+    chain: &[u64],
+) -> Result<Figures, Refusal> {
+    let plan = Plan::of_tables(contacts, contact_count, ranges, range_count)?;
+    let ask = ask.check()?;
+    let links = Links::of(&plan);
+    let numbers = chain.iter().map(|&number| ContactNo(number));
+    figures(&links, &ask, numbers)
+}
+
+/// What a file takes of a contact's volume: its size and three hundredths.
+pub fn consumption(size: u64) -> u64 {
+    size + (3 * size).div_ceil(100)
+}
+
+/// A contact with the light time of the range that covers it.
+#[derive(Clone, Copy)]
+pub struct Link {
+    pub contact: Contact,
+    light: Millis,
+}
+
+/// A file's way over one contact.
+#[derive(Clone, Copy)]
+pub struct Hop {
+    pub start: Millis,
+    pub ready: Millis,
+}
+
+impl Link {
+    fn sending_time(&self, consumption: u64) -> Millis {
+        Millis((consumption * 1000).div_ceil(self.contact.rate))
+    }
+
+    /// The way of a file that is ready before the contact, if it fits.
+    pub fn hop(&self, ready: Millis, consumption: u64) -> Option<Hop> {
+        let start = ready.max(self.contact.start);
+        let sent = start + self.sending_time(consumption);
+        (sent <= self.contact.end).then(|| Hop {
+            start,
+            ready: sent + self.light,
+        })
+    }
+
+    /// The latest time at which a file may be ready before the contact and is
+    /// ready behind it by a given time, if there is one.
+    pub fn latest_ready(&self, by: Millis, consumption: u64) -> Option<Millis> {
+        let sent_by = by.earlier_by(self.light)?.min(self.contact.end);
+        let start_by = sent_by.earlier_by(self.sending_time(consumption))?;
+        (self.contact.start <= start_by).then_some(start_by)
+    }
+}
+
+/// The links of a plan by contact number; an unranged contact has none.
+pub struct Links(Vec<Option<Link>>);
+
+impl Links {
+    pub fn of(plan: &Plan) -> Self {
+        let link = |&contact: &Contact| {
+            let light = plan.light(&contact)?;
+            Some(Link { contact, light })
+        };
+        Self(plan.contacts().iter().map(link).collect())
+    }
+
+    pub fn get(&self, number: ContactNo) -> Option<&Link> {
+        self.0.get(number.row()?)?.as_ref()
+    }
+
+    /// Every link with its contact's number, lowest first.
+    pub fn iter(&self) -> impl Iterator<Item = (ContactNo, &Link)> {
+        let rows = self.0.iter().enumerate();
+        rows.filter_map(|(row, link)| Some((ContactNo::of_row(row), link.as_ref()?)))
+    }
+}
+
+/// The figures of a chain, or refusal 16 or 14.
+pub fn figures(
+    links: &Links,
+    ask: &GoodAsk,
+    chain: impl Iterator<Item = ContactNo>,
+) -> Result<Figures, Refusal> {
+    let chain = joined(links, ask, chain).ok_or(Refusal::bare(CHAIN_NOT_ALLOWED))?;
+    let passage = pass(&chain, ask.time, ask.size).ok_or(Refusal::bare(CHAIN_NOT_ALLOWED))?;
+    let last_call = last_call(&chain, ask)
+        .filter(|_| passage.delivery < ask.deadline)
+        .ok_or(Refusal::bare(NOT_IN_TIME))?;
+    Ok(Figures {
+        delivery: passage.delivery.0,
+        opens: passage.opens.0,
+        last_call: last_call.0,
+        room: room(&chain, ask),
+    })
+}
+
+/// The chain's links, if it leads from source to destination over ranged
+/// contacts none of which is excluded.
+fn joined<'a>(
+    links: &'a Links,
+    ask: &GoodAsk,
+    chain: impl Iterator<Item = ContactNo>,
+) -> Option<Vec<&'a Link>> {
+    let mut at = ask.source;
+    let mut joined = Vec::new();
+    for number in chain {
+        let link = links.get(number)?;
+        if link.contact.from != at || ask.excludes(&link.contact) {
+            return None;
+        }
+        at = link.contact.to;
+        joined.push(link);
+    }
+    (at == ask.destination).then_some(joined)
+}
+
+struct Passage {
+    opens: Millis,
+    delivery: Millis,
+}
+
+/// The passage of a file over a chain that is not empty, if it fits everywhere.
+fn pass(chain: &[&Link], time: Millis, size: u64) -> Option<Passage> {
+    let consumption = consumption(size);
+    let (first, rest) = chain.split_first()?;
+    let first = first.hop(time, consumption)?;
+    let mut ready = first.ready;
+    for link in rest {
+        ready = link.hop(ready, consumption)?.ready;
+    }
+    Some(Passage {
+        opens: first.start,
+        delivery: ready,
+    })
+}
+
+/// The greatest time from which the chain delivers before the deadline.
+fn last_call(chain: &[&Link], ask: &GoodAsk) -> Option<Millis> {
+    let consumption = consumption(ask.size);
+    let in_time = ask.deadline.earlier_by(Millis(1))?;
+    let mut backwards = chain.iter().rev();
+    backwards.try_fold(in_time, |by, link| link.latest_ready(by, consumption))
+}
+
+/// The greatest size that a chain carries in time, given that it carries the
+/// ask's: a larger file never arrives earlier.
+fn room(chain: &[&Link], ask: &GoodAsk) -> u64 {
+    let mut carried = ask.size;
+    let mut not_carried = LARGEST_SIZE + 1;
+    while not_carried - carried > 1 {
+        let middle = carried + (not_carried - carried) / 2;
+        let passage = pass(chain, ask.time, middle);
+        if passage.is_some_and(|passage| passage.delivery < ask.deadline) {
+            carried = middle;
+        } else {
+            not_carried = middle;
+        }
+    }
+    carried
+}

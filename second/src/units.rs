@@ -1,0 +1,73 @@
+//! The three kinds of number that document 01 keeps apart, and every limit.
+
+use std::ops::Add;
+
+/// The latest time, in milliseconds.
+pub const LATEST_TIME: u64 = 8_589_934_591;
+/// The highest rate, in bytes a second; the lowest is 1.
+pub const HIGHEST_RATE: u64 = 1_000_000_000;
+/// The longest light time, in milliseconds.
+pub const LONGEST_LIGHT: u64 = 86_400_000;
+/// The largest file, in bytes; the smallest is 1.
+pub const LARGEST_SIZE: u64 = 1_000_000_000;
+/// Nodes are numbered from 1 to this.
+pub const NODES: u64 = 64;
+/// The most contacts, and the most ranges, of a plan.
+pub const ROWS: usize = 512;
+/// The words of a row in a lent table.
+pub const WORDS: usize = 5;
+/// The longest plan text and the longest input of asks, in bytes.
+pub const LONGEST_TEXT: usize = 65_536;
+/// The most contacts of a best chain.
+pub const LONGEST_BEST: usize = 63;
+
+/// A contact's number: 1 for the first row of its table.
+#[derive(Clone, Copy, Debug, PartialEq, Eq, PartialOrd, Ord)]
+pub struct ContactNo(pub u64);
+
+impl ContactNo {
+    /// The number of the contact on a row, the first being row 0.
+    pub fn of_row(row: usize) -> Self {
+        Self(row as u64 + 1)
+    }
+
+    /// The row of the contact; none for the number 0.
+    pub fn row(self) -> Option<usize> {
+        usize::try_from(self.0.checked_sub(1)?).ok()
+    }
+}
+
+/// A node's number, from 1.
+#[derive(Clone, Copy, Debug, PartialEq, Eq, PartialOrd, Ord)]
+pub struct NodeNo(pub u64);
+
+impl NodeNo {
+    /// Whether there is a node of this number.
+    pub fn exists(self) -> bool {
+        (1..=NODES).contains(&self.0)
+    }
+
+    /// The place of an existing node in a table of nodes.
+    pub fn index(self) -> usize {
+        (self.0 - 1) as usize
+    }
+}
+
+/// A moment or a span of time, in milliseconds.
+#[derive(Clone, Copy, Debug, PartialEq, Eq, PartialOrd, Ord)]
+pub struct Millis(pub u64);
+
+impl Add for Millis {
+    type Output = Self;
+
+    fn add(self, other: Self) -> Self {
+        Self(self.0 + other.0)
+    }
+}
+
+impl Millis {
+    /// The time a span earlier, unless that is before time 0.
+    pub fn earlier_by(self, span: Self) -> Option<Self> {
+        self.0.checked_sub(span.0).map(Self)
+    }
+}
