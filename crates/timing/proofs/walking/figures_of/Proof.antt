@@ -1,9 +1,9 @@
--- `timing::walk::figures_of` meets its contract.
+-- `timing::walking::figures_of` meets its contract.
 -- Assumes nothing.
 use borrow.Author.Needs.{needs}
 use Rattle.timing.proofs.WalkCode.{figures-by}
-use Rattle.timing.proofs.walk.figures_of.Statement.{statement}
-use Rattle.timing.proofs.walk.figures_of.Tie as tie
+use Rattle.timing.proofs.walking.figures_of.Statement.{statement}
+use Rattle.timing.proofs.walking.figures_of.Tie as tie
 
 opens-requires : tie.Need-opens-requires
 opens-requires c κs = search needs

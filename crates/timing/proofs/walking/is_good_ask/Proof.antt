@@ -1,9 +1,9 @@
--- `timing::walk::is_good_ask` meets its contract.
+-- `timing::walking::is_good_ask` meets its contract.
 -- Assumes nothing.
 use borrow.Author.Needs.{needs}
 use Rattle.units.specs.Limits.{lastTime, mostSize}
-use Rattle.timing.proofs.walk.is_good_ask.Statement.{statement}
-use Rattle.timing.proofs.walk.is_good_ask.Tie as tie
+use Rattle.timing.proofs.walking.is_good_ask.Statement.{statement}
+use Rattle.timing.proofs.walking.is_good_ask.Tie as tie
 
 is-node-requires : tie.Need-is-node-requires
 is-node-requires c κs = search needs

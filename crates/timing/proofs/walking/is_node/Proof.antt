@@ -1,9 +1,9 @@
--- `timing::walk::is_node` meets its contract.
+-- `timing::walking::is_node` meets its contract.
 -- Assumes nothing.
 use mathlib.Core.Path.{refl}
 use Rattle.units.specs.Limits.{mostNodes}
-use Rattle.timing.proofs.walk.is_node.Statement.{statement}
-use Rattle.timing.proofs.walk.is_node.Tie as tie
+use Rattle.timing.proofs.walking.is_node.Statement.{statement}
+use Rattle.timing.proofs.walking.is_node.Tie as tie
 
 returns : tie.Need-returns
 unfolding mostNodes

@@ -1,12 +1,12 @@
--- `timing::walk::opens` meets its contract.
+-- `timing::walking::opens` meets its contract.
 -- Assumes nothing.
 use native.Mathlib.Omega.{arith}
 use borrow.Author.Needs.{needs}
 use Rattle.plan.specs.Plan.{Each}
 use Rattle.timing.proofs.ChainCode.{named-at-most}
 use Rattle.timing.proofs.WalkCode.{opens-lent}
-use Rattle.timing.proofs.walk.opens.Statement.{statement}
-use Rattle.timing.proofs.walk.opens.Tie as tie
+use Rattle.timing.proofs.walking.opens.Statement.{statement}
+use Rattle.timing.proofs.walking.opens.Tie as tie
 
 shared-slice-read-t11 : tie.Need-shared-slice-read-t11
 shared-slice-read-t11 c = search needs

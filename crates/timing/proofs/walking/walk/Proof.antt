@@ -1,4 +1,4 @@
--- `timing::walk::walk` meets its contract.
+-- `timing::walking::walk` meets its contract.
 -- Assumes nothing.
 use mathlib.Core.Path.{sym, _∙_, subst}
 use borrow.Author.Needs.{needs}
@@ -7,8 +7,8 @@ use Rattle.plan.proofs.Verdicts.{true-holds, false-fails}
 use Rattle.timing.specs.Walk.{WalksPlan, no-plan, bad-ask, same-node, walked}
 use Rattle.timing.proofs.Theorems.{walk-model-walks}
 use Rattle.timing.proofs.WalkCode.{goodAsk-tells}
-use Rattle.timing.proofs.walk.walk.Statement.{statement}
-use Rattle.timing.proofs.walk.walk.Tie as tie
+use Rattle.timing.proofs.walking.walk.Statement.{statement}
+use Rattle.timing.proofs.walking.walk.Tie as tie
 
 is-plan-requires : tie.Need-is-plan-requires
 is-plan-requires c κs = search needs

@@ -1,12 +1,12 @@
--- `timing::walk::walk_plan` meets its contract.
+-- `timing::walking::walk_plan` meets its contract.
 -- Assumes nothing.
 use mathlib.Core.Path.{sym, _∙_}
 use borrow.Author.Needs.{needs}
 use Rattle.timing.proofs.ChainLaws.{allowed-delivery}
 use Rattle.timing.proofs.LastCallCode.{carries-named}
 use Rattle.timing.proofs.WalkCode.{walk-never, walk-late, walk-carries}
-use Rattle.timing.proofs.walk.walk_plan.Statement.{statement}
-use Rattle.timing.proofs.walk.walk_plan.Tie as tie
+use Rattle.timing.proofs.walking.walk_plan.Statement.{statement}
+use Rattle.timing.proofs.walking.walk_plan.Tie as tie
 
 delivery-requires : tie.Need-delivery-requires
 delivery-requires c κs = search needs

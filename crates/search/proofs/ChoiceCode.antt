@@ -1,0 +1,92 @@
+-- What the code of the choice knows of the model.
+--     when-injective            two words that say the same are the same
+--     within-word               a word below the limit, and a time within it
+--     leads-elsewhere, leads-by      whether a contact leads, by the tests in their order
+--     lowest-begins, lowest-goes, lowest-stops, lowest-ends      the contacts still to be tried
+-- Assumes nothing.
+use mathlib.Core.Bool.{Bool, true, false, _&&_, cond}
+use mathlib.Core.List.{List}
+use mathlib.Core.Logic.{⊎-elim}
+use mathlib.Core.Path.{_≡_, refl, sym, ap, _∙_, subst}
+use Prim.Native.Nat.{ℕ, zero, suc, _+_, _-_, _*_, _≤_, _<_}
+use native.Mathlib.Decide.{decLe}
+use native.Mathlib.Numerals.{add-one}
+use native.Mathlib.Omega.{arith}
+use borrow.Author.Tests.{eq-eqb, ne-eqb, lt-ltb, le-ltb}
+use lib.Dec.{eqb, ltb}
+use lib.ListN.{length, getD}
+use Rattle.units.specs.Limits.{mostNodes}
+use Rattle.units.specs.declared.Ask.{Ask}
+use Rattle.plan.specs.Plan.{Plan, Each}
+use Rattle.timing.specs.Chain.{contactOf}
+use Rattle.network.specs.Model.{behind, isWithin, leads, lowestFrom, lowest}
+use Rattle.network.specs.Network.{When, at, never, Network}
+use Rattle.search.specs.Bridge.{networkOf}
+use Rattle.search.specs.Words.{neverWord, whenWord, TimeWord, rowOf, layerOf, AreEnds}
+use Rattle.search.proofs.ArriveCode.{Arrives}
+use Rattle.search.proofs.RowLaws.{when-never, when-below, time-most, getD-layer}
+
+pub when-injective : (a b : ℕ) → a ≤ neverWord → b ≤ neverWord → whenWord a ≡ whenWord b → a ≡ b
+when-injective a b ha hb e = go (decLe neverWord a) (decLe neverWord b)
+  where
+    go : Dec (neverWord ≤ a) → Dec (neverWord ≤ b) → a ≡ b
+    go (yes k) (yes l) = omega arith
+    go (yes k) (no l) =
+        let na : whenWord a ≡ never = when-never a (omega arith) in
+        let tb : whenWord b ≡ at b = when-below b (omega arith) in
+        let z : _≡_ {A = ℕ} 0 1 = cc in
+        absurd (omega arith)
+    go (no k) (yes l) =
+        let ta : whenWord a ≡ at a = when-below a (omega arith) in
+        let nb : whenWord b ≡ never = when-never b (omega arith) in
+        let z : _≡_ {A = ℕ} 0 1 = cc in
+        absurd (omega arith)
+    go (no k) (no l) =
+        let ta : whenWord a ≡ at a = when-below a (omega arith) in
+        let tb : whenWord b ≡ at b = when-below b (omega arith) in
+        cc
+
+-- a word is below a limit that is no more than a word exactly where the time that it says is within it
+pub within-word : (w limit : ℕ) → w ≤ neverWord → limit ≤ neverWord → isWithin (whenWord w) limit ≡ ltb w limit
+unfolding isWithin
+within-word w limit hw hl = go (decLe neverWord w)
+  where
+    go : Dec (neverWord ≤ w) → isWithin (whenWord w) limit ≡ ltb w limit
+    go (yes l) = rw (when-never w (omega arith), le-ltb w limit (omega arith))
+    go (no l) = rw (when-below w (omega arith))
+
+module _ (p : Plan) (ask : Ask) (words : List ℕ) (k v limit c from to : ℕ) (ends : AreEnds p c from to) where
+  pub leads-elsewhere : (to ≡ v → ⊥) → false ≡ leads (networkOf p ask) (layerOf words k) v limit c
+  unfolding leads networkOf
+  leads-elsewhere h = rw (← (ends .to-is), ne-eqb to v h)
+
+  pub leads-by : to ≡ v → (k + 1) * mostNodes ≤ length words → limit ≤ neverWord → (ready arrival : ℕ) → ready ≡ getD (rowOf words k) from 0
+      → Arrives p ask c ready arrival → ltb arrival limit ≡ leads (networkOf p ask) (layerOf words k) v limit c
+  unfolding leads networkOf
+  leads-by h inside hl ready arrival er arrives =
+      let read : getD (layerOf words k) (contactOf p c .from .0 - 1) never ≡ whenWord ready =
+      ap (λ (i : ℕ). getD (layerOf words k) i never) (sym (ends .from-is)) ∙ getD-layer words k from inside (ends .from-node) ∙ ap whenWord (sym er) in
+      rw (← (ends .to-is), eq-eqb to v h, read, ← (arrives .0))
+      (sym (within-word arrival limit (time-most arrival (arrives .1)) hl))
+
+module _ (N : Network) (before : List When) (v limit m tried : ℕ) where
+  pub lowest-begins : N .contacts ≡ m → lowest N before v limit ≡ lowestFrom N before v limit 1 (m - 0)
+  unfolding lowest
+  lowest-begins e = let z : m - 0 ≡ m = omega arith in rw (e, z)
+
+  pub lowest-goes : tried < m → leads N before v limit (tried + 1) ≡ false
+      → lowestFrom N before v limit (tried + 1) (m - tried) ≡ lowestFrom N before v limit (tried + 1 + 1) (m - (tried + 1))
+  unfolding lowestFrom
+  lowest-goes h e =
+      let more : m - tried ≡ suc (m - (tried + 1)) = omega arith in
+      rw (more, e, add-one (tried + 1))
+
+  pub lowest-stops : tried < m → leads N before v limit (tried + 1) ≡ true → lowestFrom N before v limit (tried + 1) (m - tried) ≡ tried + 1
+  unfolding lowestFrom
+  lowest-stops h e =
+      let more : m - tried ≡ suc (m - (tried + 1)) = omega arith in
+      rw (more, e)
+
+  pub lowest-ends : m ≤ tried → lowestFrom N before v limit (tried + 1) (m - tried) ≡ 0
+  unfolding lowestFrom
+  lowest-ends h = let none : m - tried ≡ 0 = omega arith in rw none

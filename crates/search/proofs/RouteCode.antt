@@ -1,0 +1,130 @@
+-- What the code of `route` knows, once the layers are filled.
+--     delivered-is      the word of the destination in the last row says the delivery
+--     route-none, route-late, route-best      the answer, by the tests in their order
+--     count-is          the first row that has that word is the fewest contacts
+--     chain-named, chain-some, chain-front      the chain chosen: its numbers name contacts, it has some, and it stands in front
+-- Assumes nothing.
+use mathlib.Core.List.{List, _++_}
+use mathlib.Core.Logic.{⊎-elim}
+use mathlib.Core.Path.{_≡_, refl, sym, ap, _∙_, subst}
+use Prim.Native.Nat.{ℕ, _+_, _-_, _*_, _≤_, _<_}
+use native.Mathlib.Nat.{le-refl, le-trans, mul-le-mul-right}
+use native.Mathlib.Omega.{arith}
+use borrow.Author.Tests.{lt-ltb, le-ltb}
+use lib.ListN.{length, getD, take, drop}
+use lib.Seq.{take-at}
+use Rattle.units.specs.declared.Ask.{Ask}
+use Rattle.units.specs.declared.Refusal.the-variants.{NoChain, TooLate}
+use Rattle.units.specs.Limits.{lastTime, mostLight, mostNodes, mostChain}
+use Rattle.plan.specs.Plan.{Plan, Each, Valid}
+use Rattle.timing.specs.declared.figures.Figures.{Figures}
+use Rattle.timing.specs.Chain.{Allowed, InPlan}
+use Rattle.timing.specs.Model.{figuresOf}
+use Rattle.timing.specs.Walk.{GoodAsk}
+use Rattle.timing.proofs.LastCallCode.{carries-named}
+use Rattle.network.specs.Model.{layer, earliest, delivery, fewest, chosen}
+use Rattle.network.specs.Network.{When, at, never, Network}
+use Rattle.network.proofs.Theorems.{chosen-best, fewest-is, fewest-length}
+use Rattle.search.specs.Bridge.{networkOf}
+use Rattle.search.specs.declared.answer.Routed.the-variants.{Best, Refused}
+use Rattle.search.specs.Model.{goal, chainOf, answerOf, chainAfter, routeModel, routeAfter}
+use Rattle.search.specs.Words.{neverWord, whenWord, TimeWord, rowOf, layerOf, Filled, FirstRow}
+use Rattle.search.proofs.Chains.{allowed-reaches}
+use Rattle.search.proofs.ChoiceCode.{when-injective}
+use Rattle.search.proofs.NetworkLaws.{network-laws, goal-node, goal-apart}
+use Rattle.search.proofs.RowLaws.{when-never, when-time, time-most, time-row, getD-layer}
+
+-- a row up to the last lies inside the words
+pub row-inside : (N : Network) (words : List ℕ) (last k : ℕ) → Filled N words last → k ≤ last → (k + 1) * mostNodes ≤ length words
+row-inside N words last k f h =
+    let fewer : k + 1 ≤ mostNodes = omega (arith, f .most) in
+    subst (λ (n : ℕ). (k + 1) * mostNodes ≤ n) (sym (f .long)) (mul-le-mul-right mostNodes fewer)
+
+module _ (p : Plan) (valid : Valid p) (ask : Ask) (good : GoodAsk ask) (differ : ask .source .0 ≡ ask .destination .0 → ⊥) (words : List ℕ) (last : ℕ)
+    (filled : Filled (networkOf p ask) words last) where
+  abbrev N : Network
+  N = networkOf p ask
+
+  goal-below : goal ask < mostNodes
+  goal-below = omega (arith, good .destination-node)
+
+  -- when a node is reached over at most k contacts
+  row-says : (k : ℕ) → k ≤ last → earliest N k (goal ask) ≡ whenWord (getD (rowOf words k) (goal ask) 0)
+  unfolding earliest
+  row-says k h =
+      ap (λ (l : List When). getD l (goal ask) never) (sym (filled .rows k h))
+      ∙ getD-layer words k (goal ask) (row-inside N words last k filled h) goal-below
+
+  module _ (d : ℕ) (ed : d ≡ getD (rowOf words last) (goal ask) 0) where
+    pub delivered-is : delivery N (goal ask) ≡ whenWord d
+    unfolding delivery earliest networkOf
+    delivered-is =
+        ap (λ (l : List When). getD l (goal ask) never) (filled .settled) ∙ row-says last (le-refl last) ∙ ap whenWord (sym ed)
+
+    pub delivered-word : TimeWord d
+    delivered-word = subst TimeWord (sym ed) (time-row words last (goal ask) (filled .timed) (row-inside N words last last filled (le-refl last)) goal-below)
+
+    pub route-none : (before : List ℕ) → d ≡ neverWord → (Refused NoChain ≡ routeModel p ask) × (before ≡ routeAfter p ask before)
+    unfolding routeModel routeAfter answerOf chainAfter
+    route-none before e =
+        let is : delivery N (goal ask) ≡ never = delivered-is ∙ when-never d e in
+        (rw is, rw is)
+
+    module _ (some : d ≡ neverWord → ⊥) where
+      pub delivered-most : d ≤ lastTime + mostLight
+      delivered-most = ⊎-elim (λ h. h) (λ e. absurd (some e)) delivered-word
+
+      pub delivered-at : delivery N (goal ask) ≡ at d
+      delivered-at = delivered-is ∙ when-time d delivered-most
+
+      pub route-late : (before : List ℕ) → ask .deadline .0 ≤ d → (Refused TooLate ≡ routeModel p ask) × (before ≡ routeAfter p ask before)
+      unfolding routeModel routeAfter answerOf chainAfter
+      route-late before h = (rw (delivered-at, le-ltb d (ask .deadline .0) h), rw (delivered-at, le-ltb d (ask .deadline .0) h))
+
+      -- a row's word against the last row's
+      row-word : (k : ℕ) → k ≤ last → getD (rowOf words k) (goal ask) 0 ≤ neverWord
+      row-word k h = time-most (getD (rowOf words k) (goal ask) 0) (time-row words k (goal ask) (filled .timed) (row-inside N words last k filled h) goal-below)
+
+      module _ (count : ℕ) (first : FirstRow words last (goal ask) d count) where
+        pub count-is : count ≡ fewest N (goal ask)
+        unfolding networkOf
+        count-is =
+            sym
+            (fewest-is N (goal ask) count (omega (arith, first .most, filled .most))
+            (row-says count (first .most) ∙ ap whenWord (first .has) ∙ sym delivered-is)
+            (λ j h e.
+            first .none-before j h
+            (when-injective (getD (rowOf words j) (goal ask) 0) d (row-word j (omega (arith, first .most))) (time-most d delivered-word)
+            (sym (row-says j (omega (arith, first .most))) ∙ e ∙ delivered-is))))
+
+        pub count-room : count ≤ mostChain
+        unfolding mostNodes mostChain
+        count-room = omega (arith, first .most, filled .most)
+
+        pub chain-long : length (chainOf p ask d) ≡ count
+        unfolding chainOf
+        chain-long = fewest-length N (goal ask) d ∙ sym count-is
+
+        chain-allowed : Allowed p ask (chainOf p ask d) d
+        unfolding chainOf
+        chain-allowed =
+            allowed-reaches p valid ask good differ (chosen N (goal ask) d) d .1
+            (chosen-best N (network-laws p valid ask good) (goal ask) d (goal-node p ask good) (goal-apart p ask good differ) delivered-at .reaches)
+
+        module _ (entry exit : List ℕ) (written : exit ≡ chainOf p ask d ++ drop count entry) where
+          pub chain-front : take count exit ≡ chainOf p ask d
+          chain-front = ap (take count) written ∙ take-at (chainOf p ask d) (drop count entry) count chain-long
+
+          pub chain-named : Each (InPlan p) (take count exit)
+          chain-named = subst (Each (InPlan p)) (sym chain-front) (carries-named p ask (chain-allowed .carried))
+
+          pub chain-some : 1 ≤ length (take count exit)
+          chain-some = subst (λ (l : List ℕ). 1 ≤ length l) (sym chain-front) (chain-allowed .some-contact)
+
+          pub route-best : (f : Figures) → d < ask .deadline .0 → f ≡ figuresOf p ask (take count exit) d
+              → (Best f count ≡ routeModel p ask) × (exit ≡ routeAfter p ask entry)
+          unfolding routeModel routeAfter answerOf chainAfter
+          route-best f h ef = (
+            rw (delivered-at, lt-ltb d (ask .deadline .0) h, ef, chain-front, chain-long),
+            written ∙ rw (delivered-at, lt-ltb d (ask .deadline .0) h, chain-long),
+          )

@@ -1,0 +1,34 @@
+-- `search::choice::is_leading` meets its contract.
+-- Assumes nothing.
+use mathlib.Core.Path.{sym, subst}
+use native.Mathlib.Omega.{arith}
+use borrow.Author.Needs.{needs}
+use Rattle.search.specs.Words.{TimeWord, neverWord}
+use Rattle.search.proofs.ChoiceCode.{leads-elsewhere, leads-by}
+use Rattle.search.proofs.RowLaws.{time-row}
+use Rattle.search.proofs.choice.is_leading.Statement.{statement}
+use Rattle.search.proofs.choice.is_leading.Tie as tie
+
+ends-of-requires : tie.Need-ends-of-requires
+ends-of-requires c κs = search needs
+
+returns : tie.Need-returns
+returns c = leads-elsewhere _ _ _ _ _ _ _ _ _ (c .before .ends-of .ensures) (c .if1 .taken)
+
+get-requires : tie.Need-get-requires
+get-requires c κs = search needs
+
+arrive-requires : tie.Need-arrive-requires
+arrive-requires c κs =
+    let pre = c .before .before .before .before .before .before .pre in
+    (pre .0, pre .1, pre .2, subst TimeWord (sym (c .get .ensures)) (time-row _ _ _ (pre .3) (pre .4) (c .before .before .ends-of .ensures .from-node)))
+
+returns-2 : tie.Need-returns-2
+unfolding neverWord
+returns-2 c =
+    let start = c .before .before .before .before .before .before .before in
+    leads-by _ _ _ _ _ _ _ _ _ (c .before .before .before .ends-of .ensures) (c .before .before .if1 .left) (start .pre .4) (omega (arith, start .fits .limit)) _ _
+    (c .before .get .ensures) (c .arrive .ensures)
+
+pub is-leading-spec : {M : Type 1} → statement M
+is-leading-spec = tie.close (tie.spec ends-of-requires returns get-requires arrive-requires returns-2)

@@ -1,0 +1,4 @@
+pub mod Bridge
+pub mod Model
+pub mod Route
+pub mod Words

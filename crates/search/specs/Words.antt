@@ -1,0 +1,70 @@
+-- The network's layers in lent words: one row of words a layer, one word a node. A reader of the promises may skip it.
+--     neverWord, whenWord      never as a word, and what a word says
+--     rowOf, layerOf           row k of the words, and the layer that it holds
+--     Layered, Filled          what one step leaves, and what all of them leave
+-- Assumes nothing.
+use mathlib.Core.Bool.{Bool, true, false}
+use mathlib.Core.List.{List, map}
+use mathlib.Core.Logic.{_⊎_}
+use mathlib.Core.Path.{_≡_}
+use Prim.Native.Nat.{ℕ, suc, _+_, _-_, _*_, _≤_, _<_}
+use lib.Dec.{eqb}
+use lib.ListN.{length, getD, take, drop, replicate}
+use Rattle.units.specs.Limits.{lastTime, mostLight, mostNodes}
+use Rattle.plan.specs.Plan.{Plan, Each}
+use Rattle.timing.specs.Chain.{contactOf}
+use Rattle.network.specs.Model.{layer}
+use Rattle.network.specs.Network.{When, at, never, Network}
+
+-- never, as a word: the largest there is
+unfoldable pub neverWord : ℕ
+neverWord = 18_446_744_073_709_551_615
+
+abbrev pub pickWhen : Bool → When → When → When
+pickWhen true a b = a
+pickWhen false a b = b
+
+unfoldable pub whenWord : ℕ → When
+whenWord w = pickWhen (eqb w neverWord) never (at w)
+
+-- a word that is never, or a time that a file can be ready at
+abbrev pub TimeWord : ℕ → Type 0
+TimeWord w = (w ≤ lastTime + mostLight) ⊎ (w ≡ neverWord)
+
+unfoldable pub rowOf : List ℕ → ℕ → List ℕ
+rowOf words k = take mostNodes (drop (k * mostNodes) words)
+
+unfoldable pub layerOf : List ℕ → ℕ → List When
+layerOf words k = map whenWord (rowOf words k)
+
+-- what a step of the work leaves: as many words, each a time word; the rows up to k as they were; row k + 1 holds that layer
+pub record Layered (entry exit : List ℕ) (k : ℕ) (next : List When) : Type 0 where
+  pub long : length exit ≡ length entry
+  pub timed : Each TimeWord exit
+  pub kept : (j : ℕ) → j ≤ k → rowOf exit j ≡ rowOf entry j
+  pub is : layerOf exit (suc k) ≡ next
+
+-- the words before any work: no node reached
+unfoldable pub blankWords : List ℕ
+blankWords = replicate (mostNodes * mostNodes) neverWord
+
+-- the rows up to `last` are the network's layers, and every later layer is as that one
+pub record Filled (N : Network) (words : List ℕ) (last : ℕ) : Type 0 where
+  pub most : last < mostNodes
+  pub long : length words ≡ mostNodes * mostNodes
+  pub timed : Each TimeWord words
+  pub rows : (j : ℕ) → j ≤ last → layerOf words j ≡ layer N j
+  pub settled : layer N (mostNodes - 1) ≡ layer N last
+
+-- the nodes of the network that contact c is from and to
+pub record AreEnds (p : Plan) (c from to : ℕ) : Type 0 where
+  pub from-is : from ≡ contactOf p c .from .0 - 1
+  pub to-is : to ≡ contactOf p c .to .0 - 1
+  pub from-node : from < mostNodes
+  pub to-node : to < mostNodes
+
+-- row r is the first, up to `last`, in which node v has that word
+pub record FirstRow (words : List ℕ) (last v word r : ℕ) : Type 0 where
+  pub most : r ≤ last
+  pub has : getD (rowOf words r) v 0 ≡ word
+  pub none-before : (j : ℕ) → j < r → getD (rowOf words j) v 0 ≡ word → ⊥

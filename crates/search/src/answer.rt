@@ -1,0 +1,9 @@
+// What `route` answers.
+use timing::Figures;
+use units::Refusal;
+
+// The best chain's figures and how many contacts it has, or why there is none.
+pub enum Routed {
+    Best(Figures, usize),
+    Refused(Refusal),
+}

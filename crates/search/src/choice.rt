@@ -1,0 +1,139 @@
+// The choice: the fewest contacts at the best delivery, and the chain worked back from its last
+// contact, the lowest number first.
+use crate::layers::arrive;
+use crate::layers::ends_of;
+use crate::layers::get;
+use timing::back_over;
+use units::Ask;
+use units::ContactNo;
+use units::Millis;
+ghost use mathlib.Core.List.{_++_};
+ghost use mathlib.Core.Path.{_≡_};
+ghost use Prim.Native.Nat.{ℕ, _+_, _*_, _≤_, _<_};
+ghost use lib.ListN.{length, drop, getD};
+ghost use Rattle.units.specs.Limits.{lastTime, mostLight, mostNodes};
+ghost use Rattle.plan.specs.Plan.{Each};
+ghost use Rattle.plan.specs.Tables.{IsPlan, planOf};
+ghost use Rattle.timing.specs.Chain.{InPlan};
+ghost use Rattle.timing.specs.Walk.{GoodAsk};
+ghost use Rattle.network.specs.Model.{layer, delivery, fewest, leads, lowest};
+ghost use Rattle.network.specs.Network.{at};
+ghost use Rattle.search.specs.Bridge.{networkOf};
+ghost use Rattle.search.specs.Model.{goal, chainOf};
+ghost use Rattle.search.specs.Words.{TimeWord, rowOf, layerOf, FirstRow};
+
+// The first row up to `last` in which the node has that word: row `last` has it.
+pub fn first_row(words: &[u64], last: usize, v: usize, word: u64) -> usize
+    requires { ⌜ ((last + 1) * mostNodes ≤ length (now words)) × (v < mostNodes) × (getD (rowOf (now words) last) v 0 ≡ word) ⌝ }
+    ensures { λ r. ⌜ FirstRow (now (words .entry)) last v word r ⌝ }
+{
+    let mut k = 0;
+    while k < last {
+        if get(words, k, v) == word {
+            return k;
+        }
+        k += 1;
+    }
+    last
+}
+
+// Whether the contact leads to node v below the limit, if its first node is reached as row k has it.
+fn is_leading(
+    contacts: &[u64],
+    contact_count: usize,
+    ranges: &[u64],
+    range_count: usize,
+    ask: Ask,
+    words: &[u64],
+    k: usize,
+    v: usize,
+    limit: u64,
+    no: ContactNo,
+) -> bool
+    requires { ⌜ IsPlan (now contacts) «contact_count» (now ranges) «range_count» × GoodAsk ask × InPlan (planOf (now contacts) «contact_count» (now ranges) «range_count») (no .0) × Each TimeWord (now words) × ((k + 1) * mostNodes ≤ length (now words)) ⌝ }
+    ensures { λ t. ⌜ t ≡ leads (networkOf (planOf (now (contacts .entry)) «contact_count» (now (ranges .entry)) «range_count») ask) (layerOf (now (words .entry)) k) v limit (no .0) ⌝ }
+{
+    let ends = ends_of(contacts, contact_count, ranges, range_count, no);
+    let from = ends.from;
+    let to = ends.to;
+    if to != v {
+        return false;
+    }
+    let ready = get(words, k, from);
+    arrive(contacts, contact_count, ranges, range_count, ask, no, ready) < limit
+}
+
+// The lowest contact that leads there, or 0.
+fn lowest_leading(
+    contacts: &[u64],
+    contact_count: usize,
+    ranges: &[u64],
+    range_count: usize,
+    ask: Ask,
+    words: &[u64],
+    k: usize,
+    v: usize,
+    limit: u64,
+) -> ContactNo
+    requires { ⌜ IsPlan (now contacts) «contact_count» (now ranges) «range_count» × GoodAsk ask × Each TimeWord (now words) × ((k + 1) * mostNodes ≤ length (now words)) ⌝ }
+    ensures { λ r. ⌜ r .0 ≡ lowest (networkOf (planOf (now (contacts .entry)) «contact_count» (now (ranges .entry)) «range_count») ask) (layerOf (now (words .entry)) k) v limit ⌝ }
+{
+    let mut tried: usize = 0;
+    while tried < contact_count {
+        tried += 1;
+        let no = ContactNo(tried as u64);
+        if is_leading(
+            contacts,
+            contact_count,
+            ranges,
+            range_count,
+            ask,
+            words,
+            k,
+            v,
+            limit,
+            no,
+        ) {
+            return no;
+        }
+    }
+    ContactNo(0)
+}
+
+// Writes the chain of `count` contacts that delivers at `delivered` into the first places.
+pub fn choose(
+    contacts: &[u64],
+    contact_count: usize,
+    ranges: &[u64],
+    range_count: usize,
+    ask: Ask,
+    words: &[u64],
+    count: usize,
+    delivered: u64,
+    chain: &mut [u64],
+)
+    requires { ⌜ IsPlan (now contacts) «contact_count» (now ranges) «range_count» × GoodAsk ask × Each TimeWord (now words) × ((count + 1) * mostNodes ≤ length (now words)) ⌝ }
+    requires { ⌜ ((j : ℕ) → j ≤ count → layerOf (now words) j ≡ layer (networkOf (planOf (now contacts) «contact_count» (now ranges) «range_count») ask) j) × (delivery (networkOf (planOf (now contacts) «contact_count» (now ranges) «range_count») ask) (goal ask) ≡ at delivered) × (count ≡ fewest (networkOf (planOf (now contacts) «contact_count» (now ranges) «range_count») ask) (goal ask)) × (count ≤ length (now chain)) × (delivered ≤ lastTime + mostLight) ⌝ }
+    ensures { λ _. ⌜ now (chain .exit) ≡ chainOf (planOf (now (contacts .entry)) «contact_count» (now (ranges .entry)) «range_count») ask delivered ++ drop count (now (chain .entry)) ⌝ }
+{
+    let mut k = count;
+    let mut v = (ask.destination.0 - 1) as usize;
+    let mut limit = Millis(delivered + 1);
+    while 0 < k {
+        k -= 1;
+        let no = lowest_leading(
+            contacts,
+            contact_count,
+            ranges,
+            range_count,
+            ask,
+            words,
+            k,
+            v,
+            limit.0,
+        );
+        chain[k] = no.0;
+        limit = back_over(contacts, contact_count, ranges, range_count, ask, no, limit);
+        v = ends_of(contacts, contact_count, ranges, range_count, no).from;
+    }
+}
