@@ -13,15 +13,15 @@ use Rattle.units.specs.Limits.{mostNodes, mostChain}
 use Rattle.units.specs.declared.Ask.{Ask}
 use Rattle.plan.specs.Plan.{Plan, Valid}
 use Rattle.timing.specs.Chain.{Allowed}
-use Rattle.timing.specs.Walk.{GoodAsk}
+use Rattle.walk.specs.Walk.{GoodAsk}
 use Rattle.network.specs.Best.{Reaches, Best}
 use Rattle.network.proofs.Theorems.{best-short}
 use Rattle.network.proofs.Unique.{First, first-unique}
-use Rattle.search.specs.Bridge.{networkOf}
-use Rattle.search.specs.Model.{goal}
+use Rattle.layers.specs.Bridge.{networkOf}
+use Rattle.layers.specs.Bridge.{goal}
 use Rattle.search.specs.Route.{IsBest}
 use Rattle.search.proofs.Chains.{allowed-reaches}
-use Rattle.search.proofs.NetworkLaws.{network-laws}
+use Rattle.layers.proofs.NetworkLaws.{network-laws}
 
 pub is-best-unique : {p : Plan} {ask : Ask} {c₁ c₂ : List ℕ} {r₁ r₂ : ℕ} → IsBest p ask c₁ r₁ → IsBest p ask c₂ r₂ → (c₁ ≡ c₂) × (r₁ ≡ r₂)
 is-best-unique {p} {ask} b₁ b₂ = first-unique (Allowed p ask) _ _ _ _ (first b₁) (first b₂)

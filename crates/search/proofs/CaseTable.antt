@@ -21,10 +21,11 @@ use Rattle.plan.specs.Verdict.{Verdict}
 use Rattle.plan.proofs.Tests.{valid-tells}
 use Rattle.plan.proofs.Verdicts.{tells-le, both, restated, true-holds}
 use Rattle.timing.specs.Hop.{isBarred}
-use Rattle.timing.specs.Model.{goodAsk, stepOver, limitBefore, roomOf, figuresOf}
-use Rattle.timing.proofs.WalkCode.{goodAsk-tells}
+use Rattle.walk.specs.Model.{goodAsk, limitBefore, roomOf, figuresOf}
+use Rattle.timing.specs.Model.{stepOver}
+use Rattle.walk.proofs.WalkCode.{goodAsk-tells}
 use Rattle.network.specs.Model.{delivery, chosen}
-use Rattle.search.specs.Bridge.{networkOf}
+use Rattle.layers.specs.Bridge.{networkOf}
 use Rattle.search.specs.Model.{routeModel, routeAfter}
 use Rattle.search.specs.Route.{Routes, RoutesPlan, same-node, routed}
 use Rattle.search.specs.declared.answer.Routed.{Routed}

@@ -16,15 +16,15 @@ use Rattle.timing.specs.declared.arrival.Arrival.the-variants.{Ready, Never}
 use Rattle.timing.specs.Chain.{contactOf, Carries, stays, hops, Allowed}
 use Rattle.timing.specs.Hop.{pickArrival}
 use Rattle.timing.specs.Model.{deliveryOf}
-use Rattle.timing.specs.Walk.{GoodAsk}
+use Rattle.walk.specs.Walk.{GoodAsk}
 use Rattle.timing.proofs.Bounded.{contact-good}
 use Rattle.timing.proofs.ChainLaws.{carry-complete, allowed-delivery}
 use Rattle.network.specs.Best.{Reaches}
 use Rattle.network.specs.Network.{at, Runs}
 use Rattle.network.specs.Network as Net
-use Rattle.search.specs.Bridge.{whenOf, networkOf}
-use Rattle.search.specs.Model.{goal}
-use Rattle.search.proofs.NetworkLaws.{contact-in-plan, in-plan-contact, barredHop, step-is}
+use Rattle.layers.specs.Bridge.{whenOf, networkOf}
+use Rattle.layers.specs.Bridge.{goal}
+use Rattle.layers.proofs.NetworkLaws.{contact-in-plan, in-plan-contact, barredHop, step-is}
 
 -- a step that is made: the contact is not barred, and the hop over it is made
 free-hop : (bar : Bool) (a : Arrival) (s : ℕ) → whenOf (pickArrival bar Never a) ≡ at s → (bar ≡ false) × (a ≡ Ready (record { 0 = s }))

@@ -21,10 +21,10 @@ use Rattle.plan.specs.Plan.{Plan, Each}
 use Rattle.timing.specs.Chain.{contactOf}
 use Rattle.network.specs.Model.{behind, isWithin, leads, lowestFrom, lowest}
 use Rattle.network.specs.Network.{When, at, never, Network}
-use Rattle.search.specs.Bridge.{networkOf}
-use Rattle.search.specs.Words.{neverWord, whenWord, TimeWord, rowOf, layerOf, AreEnds}
-use Rattle.search.proofs.ArriveCode.{Arrives}
-use Rattle.search.proofs.RowLaws.{when-never, when-below, time-most, getD-layer}
+use Rattle.layers.specs.Bridge.{networkOf}
+use Rattle.layers.specs.Words.{neverWord, whenWord, TimeWord, rowOf, layerOf, AreEnds}
+use Rattle.layers.proofs.ArriveCode.{Arrives}
+use Rattle.layers.proofs.RowLaws.{when-never, when-below, time-most, getD-layer}
 
 pub when-injective : (a b : ℕ) → a ≤ neverWord → b ≤ neverWord → whenWord a ≡ whenWord b → a ≡ b
 when-injective a b ha hb e = go (decLe neverWord a) (decLe neverWord b)

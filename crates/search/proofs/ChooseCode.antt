@@ -16,14 +16,14 @@ use Rattle.units.specs.declared.Ask.{Ask}
 use Rattle.plan.specs.Plan.{Plan}
 use Rattle.timing.specs.Chain.{contactOf, InPlan}
 use Rattle.timing.specs.Hop.{isBarred}
-use Rattle.timing.specs.Model.{limitOver}
+use Rattle.walk.specs.Model.{limitOver}
 use Rattle.network.specs.Model.{behind, layer, delivery, fewest, lowest, workedBack, chosen}
 use Rattle.network.specs.Network.{When, at, never, Within, Network, Laws}
 use Rattle.network.proofs.Chosen.{Due, due-leads, due-next, fewest-due}
 use Rattle.network.proofs.Lowest.{Leads}
-use Rattle.search.specs.Bridge.{networkOf, backStep}
-use Rattle.search.specs.Words.{layerOf, AreEnds}
-use Rattle.search.proofs.NetworkLaws.{contact-in-plan, step-is, barredHop}
+use Rattle.layers.specs.Bridge.{networkOf, backStep}
+use Rattle.layers.specs.Words.{layerOf, AreEnds}
+use Rattle.layers.proofs.NetworkLaws.{contact-in-plan, step-is, barredHop}
 
 pub record Working (N : Network) (entry chain : List ℕ) (count g r k v limit : ℕ) : Type 0 where
   pub most : k ≤ count

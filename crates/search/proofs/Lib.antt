@@ -1,15 +1,9 @@
 -- Laws of the search. Theorems says that the model's answer is the one promised, that one answer at the most is, and what the promise means;
 -- CaseTable holds the request's cases to it. The files named Code are what the proofs of the functions know.
-mod ArriveCode
 pub mod BestLaws
 pub mod CaseTable
 pub mod Chains
 mod ChoiceCode
 mod ChooseCode
-mod CopyCode
-mod FillCode
-mod LayerCode
-pub mod NetworkLaws
 mod RouteCode
-pub mod RowLaws
 pub mod Theorems

@@ -17,22 +17,23 @@ use Rattle.units.specs.declared.Ask.{Ask}
 use Rattle.units.specs.declared.Refusal.the-variants.{NoChain, TooLate}
 use Rattle.units.specs.Limits.{lastTime, mostLight, mostNodes, mostChain}
 use Rattle.plan.specs.Plan.{Plan, Each, Valid}
-use Rattle.timing.specs.declared.figures.Figures.{Figures}
+use Rattle.walk.specs.declared.figures.Figures.{Figures}
 use Rattle.timing.specs.Chain.{Allowed, InPlan}
-use Rattle.timing.specs.Model.{figuresOf}
-use Rattle.timing.specs.Walk.{GoodAsk}
-use Rattle.timing.proofs.LastCallCode.{carries-named}
+use Rattle.walk.specs.Model.{figuresOf}
+use Rattle.walk.specs.Walk.{GoodAsk}
+use Rattle.walk.proofs.LastCallCode.{carries-named}
 use Rattle.network.specs.Model.{layer, earliest, delivery, fewest, chosen}
 use Rattle.network.specs.Network.{When, at, never, Network}
 use Rattle.network.proofs.Theorems.{chosen-best, fewest-is, fewest-length}
-use Rattle.search.specs.Bridge.{networkOf}
+use Rattle.layers.specs.Bridge.{networkOf}
 use Rattle.search.specs.declared.answer.Routed.the-variants.{Best, Refused}
-use Rattle.search.specs.Model.{goal, chainOf, answerOf, chainAfter, routeModel, routeAfter}
-use Rattle.search.specs.Words.{neverWord, whenWord, TimeWord, rowOf, layerOf, Filled, FirstRow}
+use Rattle.layers.specs.Bridge.{goal}
+use Rattle.search.specs.Model.{chainOf, answerOf, chainAfter, routeModel, routeAfter}
+use Rattle.layers.specs.Words.{neverWord, whenWord, TimeWord, rowOf, layerOf, Filled, FirstRow}
 use Rattle.search.proofs.Chains.{allowed-reaches}
 use Rattle.search.proofs.ChoiceCode.{when-injective}
-use Rattle.search.proofs.NetworkLaws.{network-laws, goal-node, goal-apart}
-use Rattle.search.proofs.RowLaws.{when-never, when-time, time-most, time-row, getD-layer}
+use Rattle.layers.proofs.NetworkLaws.{network-laws, goal-node, goal-apart}
+use Rattle.layers.proofs.RowLaws.{when-never, when-time, time-most, time-row, getD-layer}
 
 -- a row up to the last lies inside the words
 pub row-inside : (N : Network) (words : List ℕ) (last k : ℕ) → Filled N words last → k ≤ last → (k + 1) * mostNodes ≤ length words

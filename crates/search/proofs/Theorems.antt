@@ -25,26 +25,28 @@ use Rattle.units.specs.declared.Refusal.the-variants.{NoChain, TooLate}
 use Rattle.plan.specs.Plan.{Plan, Valid}
 use Rattle.plan.specs.Verdict.{Verdict, holds, fails}
 use Rattle.plan.proofs.Verdicts.{tells-lt}
-use Rattle.timing.specs.declared.figures.Figures.{Figures}
-use Rattle.timing.specs.declared.figures.Walked.the-variants.{Carried}
-use Rattle.timing.specs.Chain.{Allowed, HasFigures}
-use Rattle.timing.specs.Model.{figuresOf}
-use Rattle.timing.specs.Walk.{GoodAsk, WalksPlan, carried, Walks, walked}
+use Rattle.walk.specs.declared.figures.Figures.{Figures}
+use Rattle.walk.specs.declared.figures.Walked.the-variants.{Carried}
+use Rattle.timing.specs.Chain.{Allowed}
+use Rattle.walk.specs.Figures.{HasFigures}
+use Rattle.walk.specs.Model.{figuresOf}
+use Rattle.walk.specs.Walk.{GoodAsk, WalksPlan, carried, Walks, walked}
 use Rattle.timing.proofs.ChainLaws.{allowed-delivery}
-use Rattle.timing.proofs.Theorems.{figures-unique, walk-model-walks}
-use Rattle.timing.proofs.WalkCode.{walk-carries}
+use Rattle.walk.proofs.Theorems.{figures-unique, walk-model-walks}
+use Rattle.walk.proofs.WalkCode.{walk-carries}
 use Rattle.network.specs.Best.{LowerBack}
 use Rattle.network.specs.Model.{delivery}
 use Rattle.network.specs.Network.{When, at, never}
 use Rattle.network.proofs.Theorems.{chosen-best, never-unreached}
-use Rattle.search.specs.Bridge.{networkOf}
-use Rattle.search.specs.Model.{goal, chainOf, pickRouted, pickList, answerOf, chainAfter, routeModel, routeAfter}
+use Rattle.layers.specs.Bridge.{networkOf}
+use Rattle.layers.specs.Bridge.{goal}
+use Rattle.search.specs.Model.{chainOf, pickRouted, pickList, answerOf, chainAfter, routeModel, routeAfter}
 use Rattle.search.specs.Route.{IsBest, RoutesPlan, no-chain, too-late, best, Routes, short-chain, no-plan, bad-ask, same-node, routed}
 use Rattle.search.specs.declared.answer.Routed.{Routed}
 use Rattle.search.specs.declared.answer.Routed.the-variants.{Best, Refused}
 use Rattle.search.proofs.BestLaws.{is-best-best, is-best-unique, is-best-short}
 use Rattle.search.proofs.Chains.{allowed-reaches}
-use Rattle.search.proofs.NetworkLaws.{network-laws, goal-node, goal-apart}
+use Rattle.layers.proofs.NetworkLaws.{network-laws, goal-node, goal-apart}
 
 -- what an answer with a chain says, of the chain that stands in the first n places afterwards
 record Returned (p : Plan) (ask : Ask) (f : Figures) (n : ℕ) (chain : List ℕ) : Type 0 where

@@ -1,4 +1,2 @@
-pub mod Bridge
 pub mod Model
 pub mod Route
-pub mod Words

@@ -2,22 +2,18 @@
 -- Assumes nothing.
 use mathlib.Core.Bool.{Bool, true, false}
 use mathlib.Core.List.{List, _++_}
-use Prim.Native.Nat.{ℕ, _-_}
+use Prim.Native.Nat.{ℕ}
 use lib.Dec.{ltb}
 use lib.ListN.{length, drop}
 use Rattle.units.specs.declared.Ask.{Ask}
 use Rattle.units.specs.declared.Refusal.the-variants.{NoChain, TooLate}
 use Rattle.plan.specs.Plan.{Plan}
-use Rattle.timing.specs.Model.{figuresOf}
+use Rattle.walk.specs.Model.{figuresOf}
 use Rattle.network.specs.Network.{When, at, never}
 use Rattle.network.specs.Model.{delivery, chosen}
-use Rattle.search.specs.Bridge.{networkOf}
+use Rattle.layers.specs.Bridge.{networkOf, goal}
 use Rattle.search.specs.declared.answer.Routed.{Routed}
 use Rattle.search.specs.declared.answer.Routed.the-variants.{Best, Refused}
-
--- the node of the network that the ask's destination is
-abbrev pub goal : Ask → ℕ
-goal ask = ask .destination .0 - 1
 
 -- the chain chosen for a delivery at r
 unfoldable pub chainOf : Plan → Ask → ℕ → List ℕ

@@ -10,9 +10,10 @@ use Rattle.units.specs.declared.Ask.{Ask}
 use Rattle.units.specs.declared.Refusal.the-variants.{NoPlan, AskValue, SameNode, NoChain, TooLate, ShortChain}
 use Rattle.plan.specs.Plan.{Plan}
 use Rattle.plan.specs.Tables.{IsPlan, planOf}
-use Rattle.timing.specs.declared.figures.Figures.{Figures}
-use Rattle.timing.specs.Chain.{Allowed, HasFigures}
-use Rattle.timing.specs.Walk.{GoodAsk}
+use Rattle.walk.specs.declared.figures.Figures.{Figures}
+use Rattle.timing.specs.Chain.{Allowed}
+use Rattle.walk.specs.Figures.{HasFigures}
+use Rattle.walk.specs.Walk.{GoodAsk}
 use Rattle.network.specs.Best.{LowerBack}
 use Rattle.search.specs.declared.answer.Routed.{Routed}
 use Rattle.search.specs.declared.answer.Routed.the-variants.{Best, Refused}

@@ -1,6 +1,6 @@
 // What `route` answers.
-use timing::Figures;
 use units::Refusal;
+use walk::Figures;
 
 // The best chain's figures and how many contacts it has, or why there is none.
 pub enum Routed {

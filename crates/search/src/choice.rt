@@ -1,12 +1,12 @@
 // The choice: the fewest contacts at the best delivery, and the chain worked back from its last
 // contact, the lowest number first.
-use crate::layers::arrive;
-use crate::layers::ends_of;
-use crate::layers::get;
-use timing::back_over;
+use layers::arrive;
+use layers::ends_of;
+use layers::get;
 use units::Ask;
 use units::ContactNo;
 use units::Millis;
+use walk::back_over;
 ghost use mathlib.Core.List.{_++_};
 ghost use mathlib.Core.Path.{_≡_};
 ghost use Prim.Native.Nat.{ℕ, _+_, _*_, _≤_, _<_};
@@ -15,12 +15,13 @@ ghost use Rattle.units.specs.Limits.{lastTime, mostLight, mostNodes};
 ghost use Rattle.plan.specs.Plan.{Each};
 ghost use Rattle.plan.specs.Tables.{IsPlan, planOf};
 ghost use Rattle.timing.specs.Chain.{InPlan};
-ghost use Rattle.timing.specs.Walk.{GoodAsk};
+ghost use Rattle.walk.specs.Walk.{GoodAsk};
 ghost use Rattle.network.specs.Model.{layer, delivery, fewest, leads, lowest};
 ghost use Rattle.network.specs.Network.{at};
-ghost use Rattle.search.specs.Bridge.{networkOf};
-ghost use Rattle.search.specs.Model.{goal, chainOf};
-ghost use Rattle.search.specs.Words.{TimeWord, rowOf, layerOf, FirstRow};
+ghost use Rattle.layers.specs.Bridge.{networkOf};
+ghost use Rattle.layers.specs.Bridge.{goal};
+ghost use Rattle.search.specs.Model.{chainOf};
+ghost use Rattle.layers.specs.Words.{TimeWord, rowOf, layerOf, FirstRow};
 
 // The first row up to `last` in which the node has that word: row `last` has it.
 pub fn first_row(words: &[u64], last: usize, v: usize, word: u64) -> usize

@@ -1,7 +1,6 @@
-// The best chain for an ask, found by layers over the plan seen as a network. Public: `route`.
+// The best chain for an ask, chosen from the layers of the plan seen as a network. Public: `route`.
 mod answer;
 mod choice;
-mod layers;
 mod routing;
 
 pub use answer::Routed;

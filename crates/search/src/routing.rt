@@ -2,25 +2,25 @@
 use crate::answer::Routed;
 use crate::choice::choose;
 use crate::choice::first_row;
-use crate::layers::NEVER;
-use crate::layers::fill;
-use crate::layers::get;
+use layers::NEVER;
+use layers::fill;
+use layers::get;
 use plan::is_plan;
-use timing::figures_of;
-use timing::is_good_ask;
 use units::Ask;
 use units::MOST_CHAIN;
 use units::Millis;
 use units::Refusal;
+use walk::figures_of;
+use walk::is_good_ask;
 ghost use mathlib.Core.Path.{_≡_};
 ghost use Prim.Native.Nat.{_≤_};
 ghost use lib.ListN.{length};
 ghost use Rattle.units.specs.Limits.{mostChain};
 ghost use Rattle.plan.specs.Tables.{IsPlan, planOf};
-ghost use Rattle.timing.specs.Walk.{GoodAsk};
+ghost use Rattle.walk.specs.Walk.{GoodAsk};
 ghost use Rattle.search.specs.Model.{routeModel, routeAfter};
 ghost use Rattle.search.specs.Route.{Routes};
-ghost use Rattle.search.specs.Words.{blankWords};
+ghost use Rattle.layers.specs.Words.{blankWords};
 
 // The answer for a valid plan and a good ask between two nodes, worked out in lent words.
 fn route_in(

@@ -2,4 +2,3 @@ pub mod Bounds
 pub mod Chain
 pub mod Hop
 pub mod Model
-pub mod Walk

@@ -6,10 +6,11 @@ use native.Mathlib.Nat.{le-trans, mul-le-mul-right}
 use native.Mathlib.Omega.{arith}
 use Rattle.units.specs.Limits.{lastTime, mostLight, mostNodes}
 use Rattle.plan.specs.Tables.{planOf}
-use Rattle.search.specs.Bridge.{networkOf}
-use Rattle.search.specs.Model.{goal, chainOf}
+use Rattle.layers.specs.Bridge.{networkOf}
+use Rattle.layers.specs.Bridge.{goal}
+use Rattle.search.specs.Model.{chainOf}
 use Rattle.search.proofs.ChooseCode.{Working, working-begins, working-ends, lead-named, found-leads, found-goes}
-use Rattle.search.proofs.NetworkLaws.{network-laws}
+use Rattle.layers.proofs.NetworkLaws.{network-laws}
 use Rattle.search.proofs.choice.choose.Statement.{statement}
 use Rattle.search.proofs.choice.choose.Tie as tie
 

@@ -7,7 +7,7 @@ use native.Mathlib.Omega.{arith}
 use borrow.Author.Count.{below-none, below-more}
 use lib.ListN.{getD}
 use Rattle.units.specs.Limits.{mostNodes}
-use Rattle.search.specs.Words.{rowOf}
+use Rattle.layers.specs.Words.{rowOf}
 use Rattle.search.proofs.choice.first_row.Statement.{statement}
 use Rattle.search.proofs.choice.first_row.Tie as tie
 

@@ -3,9 +3,9 @@
 use mathlib.Core.Path.{sym, subst}
 use native.Mathlib.Omega.{arith}
 use borrow.Author.Needs.{needs}
-use Rattle.search.specs.Words.{TimeWord, neverWord}
+use Rattle.layers.specs.Words.{TimeWord, neverWord}
 use Rattle.search.proofs.ChoiceCode.{leads-elsewhere, leads-by}
-use Rattle.search.proofs.RowLaws.{time-row}
+use Rattle.layers.proofs.RowLaws.{time-row}
 use Rattle.search.proofs.choice.is_leading.Statement.{statement}
 use Rattle.search.proofs.choice.is_leading.Tie as tie
 

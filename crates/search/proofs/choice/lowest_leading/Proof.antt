@@ -6,10 +6,10 @@ use native.Mathlib.Omega.{arith}
 use Rattle.plan.specs.Tables.{planOf}
 use Rattle.timing.proofs.ChainCode.{named-in-plan}
 use Rattle.network.specs.Model.{lowest, lowestFrom}
-use Rattle.search.specs.Bridge.{networkOf}
-use Rattle.search.specs.Words.{layerOf}
+use Rattle.layers.specs.Bridge.{networkOf}
+use Rattle.layers.specs.Words.{layerOf}
 use Rattle.search.proofs.ChoiceCode.{lowest-begins, lowest-goes, lowest-stops, lowest-ends}
-use Rattle.search.proofs.FillCode.{contacts-counted}
+use Rattle.layers.proofs.FillCode.{contacts-counted}
 use Rattle.search.proofs.choice.lowest_leading.Statement.{statement}
 use Rattle.search.proofs.choice.lowest_leading.Tie as tie
 

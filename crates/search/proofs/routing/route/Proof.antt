@@ -5,7 +5,7 @@ use borrow.Author.Needs.{needs}
 use borrow.Author.Tests.{not-true, not-false}
 use Rattle.units.specs.Limits.{mostChain}
 use Rattle.plan.proofs.Verdicts.{true-holds, false-fails}
-use Rattle.timing.proofs.WalkCode.{goodAsk-tells}
+use Rattle.walk.proofs.WalkCode.{goodAsk-tells}
 use Rattle.search.specs.Route.{RoutesPlan, short-chain, no-plan, bad-ask, same-node, routed}
 use Rattle.search.proofs.Theorems.{route-model-routes}
 use Rattle.search.proofs.routing.route.Statement.{statement}

@@ -5,7 +5,7 @@ use native.Mathlib.Nat.{le-refl, le-trans}
 use native.Mathlib.Omega.{arith}
 use borrow.Author.Needs.{needs}
 use lib.ListN.{length}
-use Rattle.search.specs.Words.{neverWord}
+use Rattle.layers.specs.Words.{neverWord}
 use Rattle.search.proofs.RouteCode.{row-inside, delivered-at, delivered-most, route-none, route-late, count-is, count-room, chain-long, chain-front, chain-named, chain-some, route-best}
 use Rattle.search.proofs.routing.route_in.Statement.{statement}
 use Rattle.search.proofs.routing.route_in.Tie as tie

@@ -1,7 +1,7 @@
 -- `search::routing::route_plan` meets its contract.
 -- Assumes nothing.
 use borrow.Author.Needs.{needs}
-use Rattle.search.proofs.FillCode.{blank-is}
+use Rattle.layers.proofs.FillCode.{blank-is}
 use Rattle.search.proofs.routing.route_plan.Statement.{statement}
 use Rattle.search.proofs.routing.route_plan.Tie as tie
 

@@ -1,0 +1,179 @@
+// The layers filled: for each node, when the file can be there at the earliest over at most k
+// contacts. Row k of the lent words is layer k.
+use crate::rows::NEVER;
+use crate::rows::NODES;
+use crate::rows::copy_row;
+use crate::rows::get;
+use crate::rows::is_same;
+use crate::rows::put;
+use plan::contact_numbered;
+use timing::Arrival;
+use timing::step;
+use units::Ask;
+use units::ContactNo;
+use units::Millis;
+ghost use mathlib.Core.Bool.{true};
+ghost use mathlib.Core.Path.{_≡_};
+ghost use Prim.Native.Nat.{_+_, _*_, _≤_, _<_};
+ghost use lib.ListN.{length};
+ghost use Rattle.units.specs.Limits.{mostNodes};
+ghost use Rattle.plan.specs.Plan.{Each};
+ghost use Rattle.plan.specs.Tables.{IsPlan, planOf};
+ghost use Rattle.timing.specs.Chain.{InPlan};
+ghost use Rattle.walk.specs.Walk.{GoodAsk};
+ghost use Rattle.network.specs.Model.{behind, relax, relaxed};
+ghost use Rattle.layers.specs.Bridge.{networkOf};
+ghost use Rattle.layers.specs.Words.{neverWord, whenWord, TimeWord, rowOf, layerOf, Layered, blankWords, Filled, AreEnds};
+
+// When the file is ready behind the contact, as a word, from when it is ready before it.
+pub fn arrive(
+    contacts: &[u64],
+    contact_count: usize,
+    ranges: &[u64],
+    range_count: usize,
+    ask: Ask,
+    no: ContactNo,
+    ready: u64,
+) -> u64
+    requires { ⌜ IsPlan (now contacts) «contact_count» (now ranges) «range_count» × GoodAsk ask × InPlan (planOf (now contacts) «contact_count» (now ranges) «range_count») (no .0) × TimeWord ready ⌝ }
+    ensures { λ r. ⌜ (whenWord r ≡ behind (networkOf (planOf (now (contacts .entry)) «contact_count» (now (ranges .entry)) «range_count») ask) (no .0) (whenWord ready)) × TimeWord r ⌝ }
+{
+    if ready == NEVER {
+        return NEVER;
+    }
+    let from = contact_numbered(contacts, no).from;
+    let arrival = step(
+        contacts,
+        contact_count,
+        ranges,
+        range_count,
+        ask,
+        from,
+        Millis(ready),
+        no,
+    );
+    match arrival {
+        Arrival::Ready(t) => t.0,
+        Arrival::Never => NEVER,
+    }
+}
+
+// The nodes that a contact is from and to, counted from 0.
+pub struct Ends {
+    pub from: usize,
+    pub to: usize,
+}
+
+pub fn ends_of(
+    contacts: &[u64],
+    contact_count: usize,
+    ranges: &[u64],
+    range_count: usize,
+    no: ContactNo,
+) -> Ends
+    requires { ⌜ IsPlan (now contacts) «contact_count» (now ranges) «range_count» × InPlan (planOf (now contacts) «contact_count» (now ranges) «range_count») (no .0) ⌝ }
+    ensures { λ r. ⌜ AreEnds (planOf (now (contacts .entry)) «contact_count» (now (ranges .entry)) «range_count») (no .0) (r .from) (r .to) ⌝ }
+{
+    let c = contact_numbered(contacts, no);
+    Ends {
+        from: (c.from.0 - 1) as usize,
+        to: (c.to.0 - 1) as usize,
+    }
+}
+
+// One contact tried: the node that it is to may be reached earlier by it, out of row k, in row k + 1.
+fn try_contact(
+    contacts: &[u64],
+    contact_count: usize,
+    ranges: &[u64],
+    range_count: usize,
+    ask: Ask,
+    words: &mut [u64],
+    k: usize,
+    no: ContactNo,
+)
+    requires { ⌜ IsPlan (now contacts) «contact_count» (now ranges) «range_count» × GoodAsk ask × InPlan (planOf (now contacts) «contact_count» (now ranges) «range_count») (no .0) × Each TimeWord (now words) × ((k + 2) * mostNodes ≤ length (now words)) ⌝ }
+    ensures { λ _. ⌜ Layered (now (words .entry)) (now (words .exit)) k (relax (networkOf (planOf (now (contacts .entry)) «contact_count» (now (ranges .entry)) «range_count») ask) (layerOf (now (words .entry)) k) (no .0) (layerOf (now (words .entry)) (k + 1))) ⌝ }
+{
+    let ends = ends_of(contacts, contact_count, ranges, range_count, no);
+    let from = ends.from;
+    let to = ends.to;
+    let next = k + 1;
+    let ready = get(words, k, from);
+    let arrival = arrive(contacts, contact_count, ranges, range_count, ask, no, ready);
+    if arrival < get(words, next, to) {
+        put(words, next, to, arrival);
+    }
+}
+
+// The contacts 1 to contact_count tried, one after the other.
+fn try_all(
+    contacts: &[u64],
+    contact_count: usize,
+    ranges: &[u64],
+    range_count: usize,
+    ask: Ask,
+    words: &mut [u64],
+    k: usize,
+)
+    requires { ⌜ IsPlan (now contacts) «contact_count» (now ranges) «range_count» × GoodAsk ask × Each TimeWord (now words) × ((k + 2) * mostNodes ≤ length (now words)) × (layerOf (now words) (k + 1) ≡ layerOf (now words) k) ⌝ }
+    ensures { λ _. ⌜ Layered (now (words .entry)) (now (words .exit)) k (relaxed (networkOf (planOf (now (contacts .entry)) «contact_count» (now (ranges .entry)) «range_count») ask) (layerOf (now (words .entry)) k) «contact_count») ⌝ }
+{
+    let mut tried: usize = 0;
+    while tried < contact_count {
+        tried += 1;
+        try_contact(
+            contacts,
+            contact_count,
+            ranges,
+            range_count,
+            ask,
+            words,
+            k,
+            ContactNo(tried as u64),
+        );
+    }
+}
+
+// Layer k + 1 out of layer k, in row k + 1. Answers whether it is known to be the same.
+fn next_row(
+    contacts: &[u64],
+    contact_count: usize,
+    ranges: &[u64],
+    range_count: usize,
+    ask: Ask,
+    words: &mut [u64],
+    k: usize,
+) -> bool
+    requires { ⌜ IsPlan (now contacts) «contact_count» (now ranges) «range_count» × GoodAsk ask × Each TimeWord (now words) × ((k + 2) * mostNodes ≤ length (now words)) ⌝ }
+    ensures { λ t. ⌜ Layered (now (words .entry)) (now (words .exit)) k (relaxed (networkOf (planOf (now (contacts .entry)) «contact_count» (now (ranges .entry)) «range_count») ask) (layerOf (now (words .entry)) k) «contact_count») × (t ≡ true → rowOf (now (words .exit)) (k + 1) ≡ rowOf (now (words .exit)) k) ⌝ }
+{
+    copy_row(words, k);
+    try_all(contacts, contact_count, ranges, range_count, ask, words, k);
+    is_same(words, k)
+}
+
+// Fills the rows with the layers and answers the last one worked out: every later layer is the same.
+pub fn fill(
+    contacts: &[u64],
+    contact_count: usize,
+    ranges: &[u64],
+    range_count: usize,
+    ask: Ask,
+    words: &mut [u64],
+) -> usize
+    requires { ⌜ IsPlan (now contacts) «contact_count» (now ranges) «range_count» × GoodAsk ask × (now words ≡ blankWords) ⌝ }
+    ensures { λ r. ⌜ Filled (networkOf (planOf (now (contacts .entry)) «contact_count» (now (ranges .entry)) «range_count») ask) (now (words .exit)) r ⌝ }
+{
+    let source = (ask.source.0 - 1) as usize;
+    put(words, 0, source, ask.time.0);
+    let mut k: usize = 0;
+    while k < NODES - 1 {
+        let done = next_row(contacts, contact_count, ranges, range_count, ask, words, k);
+        k += 1;
+        if done {
+            return k;
+        }
+    }
+    k
+}

@@ -1,0 +1,71 @@
+-- What the code of last call knows of the model.
+--     back-lent                  the step back over a contact that was read from its row
+--     part-none, part-more       a part of the chain, one contact fewer
+--     whole-part                 the chain's first contacts, with a part taken off their end
+--     carries-named              every number of a chain that carries names a contact of the plan
+-- Assumes nothing.
+use mathlib.Core.List.{List, [], _∷_, _++_}
+use mathlib.Core.Path.{_≡_, refl, sym, ap, _∙_}
+use Prim.Native.Nat.{ℕ, zero, suc, _+_, _-_, _≤_, _<_}
+use native.Mathlib.Nat.{not-suc-le-zero, le-of-suc-le-suc}
+use native.Mathlib.Omega.{arith}
+use lib.ListN.{length, getD, take, drop, length-drop}
+use lib.Seq.{take-suc, take-add, getD-drop}
+use Rattle.units.specs.declared.Ask.{Ask}
+use Rattle.plan.specs.declared.rows.Contact.{Contact}
+use Rattle.plan.specs.declared.light.Light.{Light}
+use Rattle.plan.specs.Light.{lightOf}
+use Rattle.plan.specs.Plan.{Plan, Each}
+use Rattle.plan.specs.Tables.{contactAt, rangeAt, rowsFrom, planOf}
+use Rattle.timing.specs.Chain.{contactOf, InPlan, Carries, stays, hops}
+use Rattle.timing.specs.Model.{backOver}
+use Rattle.walk.specs.Model.{limitOver, limitBefore}
+use Rattle.timing.proofs.ChainCode.{contact-lent}
+use Rattle.walk.proofs.LastCallLaws.{limit-append}
+
+pub back-lent : (contacts : List ℕ) (m : ℕ) (ranges : List ℕ) (n c : ℕ) → InPlan (planOf contacts m ranges n) c → (ask : Ask) (limit : ℕ) (x : Contact) (l : Light) (r : ℕ)
+    → x ≡ contactAt contacts (c - 1) → l ≡ lightOf (rowsFrom (rangeAt ranges) 0 n) x → r ≡ backOver l x (ask .size) limit
+    → r ≡ limitOver (planOf contacts m ranges n) ask c limit
+unfolding planOf
+back-lent contacts m ranges n c i ask limit x l r ex el er =
+    er
+    ∙ ap (λ (y : Light). backOver y x (ask .size) limit) el
+    ∙ ap (λ (y : Contact). backOver (lightOf (rowsFrom (rangeAt ranges) 0 n) y) y (ask .size) limit) (ex ∙ sym (contact-lent contacts m ranges n c i))
+
+module _ (p : Plan) (ask : Ask) where
+  pub part-none : (xs : List ℕ) (count limit : ℕ) → count ≡ 0 → limit ≡ limitBefore p ask (take count xs) limit
+  unfolding limitBefore
+  part-none xs count limit e = rw e
+
+  pub part-more : (chain : List ℕ) (at count limit before r : ℕ) → at + count ≤ length chain → (count ≡ 0 → ⊥)
+      → before ≡ limitOver p ask (getD chain (at + (count - 1)) 0) limit
+      → r ≡ limitBefore p ask (take (count - 1) (drop at chain)) before
+      → r ≡ limitBefore p ask (take count (drop at chain)) limit
+  unfolding limitBefore
+  part-more chain at zero limit before r h some eb er = absurd (some refl)
+  part-more chain at (suc k) limit before r h some eb er =
+      let less : suc k - 1 ≡ k = omega arith in
+      let inside : k < length (drop at chain) = omega (arith, length-drop at chain) in
+      let eb' : before ≡ limitOver p ask (getD chain (at + k) 0) limit = rw less at eb in
+      let er' : r ≡ limitBefore p ask (take k (drop at chain)) before = rw less at er in
+      er'
+      ∙ ap (limitBefore p ask (take k (drop at chain))) (eb' ∙ ap (λ (c : ℕ). limitOver p ask c limit) (sym (getD-drop at chain k 0)))
+      ∙ sym (limit-append p ask (take k (drop at chain)) (getD (drop at chain) k 0 ∷ []) limit)
+      ∙ ap (λ (xs : List ℕ). limitBefore p ask xs limit) (sym (take-suc (drop at chain) k 0 inside))
+
+  pub whole-part : (chain : List ℕ) (end count at limit before r : ℕ) → at + count ≡ end
+      → limit ≡ limitBefore p ask (take end chain) before
+      → r ≡ limitBefore p ask (take count (drop at chain)) before
+      → limit ≡ limitBefore p ask (take at chain) r
+  whole-part chain end count at limit before r e el er =
+      el
+      ∙ ap (λ (k : ℕ). limitBefore p ask (take k chain) before) (sym e)
+      ∙ ap (λ (xs : List ℕ). limitBefore p ask xs before) (take-add at count chain)
+      ∙ limit-append p ask (take at chain) (take count (drop at chain)) before
+      ∙ ap (limitBefore p ask (take at chain)) (sym er)
+
+  pub carries-named : {u t v r : ℕ} {cs : List ℕ} → Carries p ask u t cs v r → Each (InPlan p) cs
+  unfolding Each
+  carries-named stays blank k h = absurd (not-suc-le-zero h)
+  carries-named (hops i f b e more) blank zero h = i
+  carries-named (hops i f b e more) blank (suc k) h = carries-named more blank k (le-of-suc-le-suc h)

@@ -1,0 +1,8 @@
+-- The laws of a walk: Theorems says that the model's answer is the one promised, and that one answer at the most is. The files named Code are
+-- what the proofs of the functions know.
+pub mod LastCallCode
+pub mod LastCallLaws
+mod RoomCode
+pub mod RoomLaws
+pub mod Theorems
+pub mod WalkCode

@@ -1,0 +1,77 @@
+-- What the code of `walk` knows of the model and of the promise.
+--     goodAsk-tells        the test of an ask's values
+--     opens-lent           the start on the first contact, where it was read from its row
+--     figures-by           figures worked out one by one
+--     walk-never, walk-late, walk-carries      the answer, by when the chain delivers
+-- Assumes nothing.
+use mathlib.Core.List.{List}
+use mathlib.Core.Path.{_≡_, refl, sym, ap, _∙_}
+use Prim.Native.Nat.{ℕ, _-_, _≤_, _<_, max}
+use borrow.Author.Tests.{lt-ltb, le-ltb}
+use lib.ListN.{length, getD}
+use Rattle.units.specs.Limits.{IsNode, lastTime, mostNodes, mostSize}
+use Rattle.units.specs.declared.Ask.{Ask}
+use Rattle.units.specs.declared.Millis.{Millis}
+use Rattle.units.specs.declared.NodeNo.{NodeNo}
+use Rattle.units.specs.declared.Refusal.the-variants.{NotAllowed, TooLate}
+use Rattle.plan.specs.declared.rows.Contact.{Contact}
+use Rattle.plan.specs.Plan.{Plan, Each}
+use Rattle.plan.specs.Tables.{contactAt, planOf}
+use Rattle.plan.specs.Verdict.{Verdict}
+use Rattle.plan.proofs.Verdicts.{tells-le, both, restated}
+use Rattle.timing.specs.declared.arrival.Arrival.the-variants.{Ready, Never}
+use Rattle.walk.specs.declared.figures.Figures.{Figures}
+use Rattle.walk.specs.declared.figures.Walked.{Walked}
+use Rattle.walk.specs.declared.figures.Walked.the-variants.{Carried, Refused}
+use Rattle.timing.specs.Chain.{InPlan, contactOf}
+use Rattle.timing.specs.Hop.{startOn}
+use Rattle.walk.specs.Model.{isNode, goodAsk, limitBefore, roomOf, figuresOf, walkModel}
+use Rattle.timing.specs.Model.{deliveryOf}
+use Rattle.walk.specs.Walk.{GoodAsk}
+use Rattle.timing.proofs.ChainCode.{contact-lent}
+
+isNode-tells : (n : NodeNo) → Verdict (IsNode n) (isNode n)
+isNode-tells n =
+    restated (λ p. record { least = p .0; most = p .1 }) (λ g. (g .least, g .most)) (both (tells-le 1 (n .0)) (tells-le (n .0) mostNodes))
+
+pub goodAsk-tells : (ask : Ask) → Verdict (GoodAsk ask) (goodAsk ask)
+goodAsk-tells ask =
+    restated
+    (λ p. record {
+      source-node = p .0 .0 .0 .0 .0;
+      destination-node = p .0 .0 .0 .0 .1;
+      time-most = p .0 .0 .0 .1;
+      size-least = p .0 .0 .1;
+      size-most = p .0 .1;
+      deadline-most = p .1;
+    })
+    (λ g. (((((g .source-node, g .destination-node), g .time-most), g .size-least), g .size-most), g .deadline-most))
+    (both
+    (both
+    (both (both (both (isNode-tells (ask .source)) (isNode-tells (ask .destination))) (tells-le (ask .time .0) lastTime)) (tells-le 1 (ask .size)))
+    (tells-le (ask .size) mostSize))
+    (tells-le (ask .deadline .0) lastTime))
+
+pub opens-lent : (contacts : List ℕ) (m : ℕ) (ranges : List ℕ) (n c : ℕ) → InPlan (planOf contacts m ranges n) c → (t : ℕ) (x : Contact) (r : ℕ)
+    → x ≡ contactAt contacts (c - 1) → r ≡ max t (x .start .0) → r ≡ startOn (contactOf (planOf contacts m ranges n) c) t
+opens-lent contacts m ranges n c i t x r ex er = er ∙ ap (λ (y : Contact). max t (y .start .0)) (ex ∙ sym (contact-lent contacts m ranges n c i))
+
+module _ (p : Plan) (ask : Ask) (chain : List ℕ) where
+  pub figures-by : (d o l : Millis) (n : ℕ) → o .0 ≡ startOn (contactOf p (getD chain 0 0)) (ask .time .0)
+      → l .0 ≡ limitBefore p ask chain (ask .deadline .0) - 1 → n ≡ roomOf p ask chain
+      → _≡_ {A = Figures} (record { delivery = d; opens = o; «last_call» = l; room = n }) (figuresOf p ask chain (d .0))
+  unfolding figuresOf
+  figures-by d o l n eo el en = λ i. record { delivery = d; opens = record { 0 = eo i }; «last_call» = record { 0 = el i }; room = en i }
+
+  pub walk-never : deliveryOf p ask chain ≡ Never → Refused NotAllowed ≡ walkModel p ask chain
+  unfolding walkModel
+  walk-never e = rw e
+
+  pub walk-late : (r : Millis) → deliveryOf p ask chain ≡ Ready r → ask .deadline .0 ≤ r .0 → Refused TooLate ≡ walkModel p ask chain
+  unfolding walkModel
+  walk-late r e h = rw (e, le-ltb (r .0) (ask .deadline .0) h)
+
+  pub walk-carries : (r : Millis) (f : Figures) → deliveryOf p ask chain ≡ Ready r → r .0 < ask .deadline .0 → f ≡ figuresOf p ask chain (r .0)
+      → Carried f ≡ walkModel p ask chain
+  unfolding walkModel
+  walk-carries r f e h ef = rw (e, lt-ltb (r .0) (ask .deadline .0) h, ef)

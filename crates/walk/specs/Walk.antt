@@ -1,0 +1,38 @@
+-- What `walk` promises: refusals in the order 9, 11, 12, 16, 14, or the chain's figures.
+-- Assumes nothing.
+use mathlib.Core.List.{List}
+use mathlib.Core.Path.{_≡_}
+use Prim.Native.Nat.{ℕ, _≤_}
+use Rattle.units.specs.Limits.{IsNode, lastTime, mostSize}
+use Rattle.units.specs.declared.Ask.{Ask}
+use Rattle.units.specs.declared.Refusal.the-variants.{NoPlan, AskValue, SameNode, NotAllowed, TooLate}
+use Rattle.plan.specs.Plan.{Plan}
+use Rattle.plan.specs.Tables.{IsPlan, planOf}
+use Rattle.walk.specs.declared.figures.Figures.{Figures}
+use Rattle.walk.specs.declared.figures.Walked.{Walked}
+use Rattle.walk.specs.declared.figures.Walked.the-variants.{Carried, Refused}
+use Rattle.timing.specs.Chain.{Allowed}
+use Rattle.walk.specs.Figures.{HasFigures}
+
+-- every value of the ask in its range; any exclusion number is
+pub record GoodAsk (ask : Ask) : Type 0 where
+  pub source-node : IsNode (ask .source)
+  pub destination-node : IsNode (ask .destination)
+  pub time-most : ask .time .0 ≤ lastTime
+  pub size-least : 1 ≤ ask .size
+  pub size-most : ask .size ≤ mostSize
+  pub deadline-most : ask .deadline .0 ≤ lastTime
+
+-- the answer for a valid plan and a good ask between two nodes
+pub data WalksPlan (p : Plan) (ask : Ask) (chain : List ℕ) : Walked → Type 0 where
+  not-allowed : ((r : ℕ) → Allowed p ask chain r → ⊥) → WalksPlan p ask chain (Refused NotAllowed)
+  too-late : {r : ℕ} → Allowed p ask chain r → ask .deadline .0 ≤ r → WalksPlan p ask chain (Refused TooLate)
+  carried : {f : Figures} → HasFigures p ask chain f → WalksPlan p ask chain (Carried f)
+
+-- the answer for lent tables, any ask and any chain
+pub data Walks (contacts : List ℕ) (m : ℕ) (ranges : List ℕ) (n : ℕ) (ask : Ask) (chain : List ℕ) : Walked → Type 0 where
+  no-plan : (IsPlan contacts m ranges n → ⊥) → Walks contacts m ranges n ask chain (Refused NoPlan)
+  bad-ask : IsPlan contacts m ranges n → (GoodAsk ask → ⊥) → Walks contacts m ranges n ask chain (Refused AskValue)
+  same-node : IsPlan contacts m ranges n → GoodAsk ask → ask .source .0 ≡ ask .destination .0 → Walks contacts m ranges n ask chain (Refused SameNode)
+  walked : {w : Walked} → IsPlan contacts m ranges n → GoodAsk ask → (ask .source .0 ≡ ask .destination .0 → ⊥)
+      → WalksPlan (planOf contacts m ranges n) ask chain w → Walks contacts m ranges n ask chain w

@@ -1,0 +1,174 @@
+// The public call `walk`: a given chain is timed.
+use crate::figures::Figures;
+use crate::figures::Walked;
+use crate::last_call::limit_before;
+use crate::room::room;
+use plan::contact_numbered;
+use plan::is_plan;
+use timing::Arrival;
+use timing::delivery;
+use timing::later;
+use units::Ask;
+use units::ContactNo;
+use units::LAST_TIME;
+use units::MOST_NODES;
+use units::MOST_SIZE;
+use units::Millis;
+use units::NodeNo;
+use units::Refusal;
+ghost use mathlib.Core.Path.{_≡_};
+ghost use Prim.Native.Nat.{_-_, _≤_, _<_};
+ghost use lib.ListN.{length, getD};
+ghost use Rattle.plan.specs.Plan.{Each};
+ghost use Rattle.plan.specs.Tables.{IsPlan, planOf};
+ghost use Rattle.plan.specs.Verdict.{Verdict};
+ghost use Rattle.timing.specs.Chain.{InPlan, contactOf};
+ghost use Rattle.timing.specs.Hop.{startOn};
+ghost use Rattle.walk.specs.Model.{isNode, goodAsk, limitBefore, figuresOf, walkModel};
+ghost use Rattle.walk.specs.Walk.{GoodAsk, Walks};
+
+fn is_node(n: NodeNo) -> bool
+    ensures { λ t. ⌜ t ≡ isNode n ⌝ }
+{
+    (1 <= n.0) & (n.0 <= MOST_NODES)
+}
+
+// Whether every value of the ask is in its range.
+pub fn is_good_ask(ask: Ask) -> bool
+    ensures { λ t. ⌜ t ≡ goodAsk ask ⌝ }
+{
+    let source = ask.source;
+    let destination = ask.destination;
+    is_node(source)
+        & is_node(destination)
+        & (ask.time.0 <= LAST_TIME)
+        & (1 <= ask.size)
+        & (ask.size <= MOST_SIZE)
+        & (ask.deadline.0 <= LAST_TIME)
+}
+
+// When the file starts on the chain's first contact.
+fn opens(
+    contacts: &[u64],
+    contact_count: usize,
+    ranges: &[u64],
+    range_count: usize,
+    ask: Ask,
+    chain: &[u64],
+) -> Millis
+    requires { ⌜ IsPlan (now contacts) «contact_count» (now ranges) «range_count» × Each (InPlan (planOf (now contacts) «contact_count» (now ranges) «range_count»)) (now chain) × (1 ≤ length (now chain)) ⌝ }
+    ensures { λ r. ⌜ r .0 ≡ startOn (contactOf (planOf (now (contacts .entry)) «contact_count» (now (ranges .entry)) «range_count») (getD (now (chain .entry)) 0 0)) (ask .time .0) ⌝ }
+{
+    let first = ContactNo(chain[0]);
+    let start = contact_numbered(contacts, first).start;
+    let time = ask.time;
+    later(time, start)
+}
+
+// The latest time from which the chain is still in time: below the limit, and so one less.
+fn last_call(
+    contacts: &[u64],
+    contact_count: usize,
+    ranges: &[u64],
+    range_count: usize,
+    ask: Ask,
+    chain: &[u64],
+) -> Millis
+    requires { ⌜ IsPlan (now contacts) «contact_count» (now ranges) «range_count» × Each (InPlan (planOf (now contacts) «contact_count» (now ranges) «range_count»)) (now chain) × GoodAsk ask ⌝ }
+    ensures { λ r. ⌜ r .0 ≡ limitBefore (planOf (now (contacts .entry)) «contact_count» (now (ranges .entry)) «range_count») ask (now (chain .entry)) (ask .deadline .0) - 1 ⌝ }
+{
+    let deadline = ask.deadline;
+    let limit = limit_before(
+        contacts,
+        contact_count,
+        ranges,
+        range_count,
+        ask,
+        chain,
+        deadline,
+    );
+    if 0 < limit.0 {
+        Millis(limit.0 - 1)
+    } else {
+        Millis(0)
+    }
+}
+
+// The figures of a chain that delivers at `delivered`.
+pub fn figures_of(
+    contacts: &[u64],
+    contact_count: usize,
+    ranges: &[u64],
+    range_count: usize,
+    ask: Ask,
+    chain: &[u64],
+    delivered: Millis,
+) -> Figures
+    requires { ⌜ IsPlan (now contacts) «contact_count» (now ranges) «range_count» × Each (InPlan (planOf (now contacts) «contact_count» (now ranges) «range_count»)) (now chain) × GoodAsk ask × (1 ≤ length (now chain)) ⌝ }
+    ensures { λ r. ⌜ r ≡ figuresOf (planOf (now (contacts .entry)) «contact_count» (now (ranges .entry)) «range_count») ask (now (chain .entry)) (delivered .0) ⌝ }
+{
+    let opening = opens(contacts, contact_count, ranges, range_count, ask, chain);
+    let call = last_call(contacts, contact_count, ranges, range_count, ask, chain);
+    let most = room(contacts, contact_count, ranges, range_count, ask, chain);
+    Figures {
+        delivery: delivered,
+        opens: opening,
+        last_call: call,
+        room: most,
+    }
+}
+
+// The answer for a valid plan and a good ask between two nodes.
+fn walk_plan(
+    contacts: &[u64],
+    contact_count: usize,
+    ranges: &[u64],
+    range_count: usize,
+    ask: Ask,
+    chain: &[u64],
+) -> Walked
+    requires { ⌜ IsPlan (now contacts) «contact_count» (now ranges) «range_count» × GoodAsk ask × (ask .source .0 ≡ ask .destination .0 → ⊥) ⌝ }
+    ensures { λ r. ⌜ r ≡ walkModel (planOf (now (contacts .entry)) «contact_count» (now (ranges .entry)) «range_count») ask (now (chain .entry)) ⌝ }
+{
+    let arrival = delivery(contacts, contact_count, ranges, range_count, ask, chain);
+    let Arrival::Ready(delivered) = arrival else {
+        return Walked::Refused(Refusal::NotAllowed);
+    };
+    if delivered.0 < ask.deadline.0 {
+        Walked::Carried(figures_of(
+            contacts,
+            contact_count,
+            ranges,
+            range_count,
+            ask,
+            chain,
+            delivered,
+        ))
+    } else {
+        Walked::Refused(Refusal::TooLate)
+    }
+}
+
+// Times the chain given for the ask, over the plan that the tables hold: its figures, or why it is
+// refused.
+pub fn walk(
+    contacts: &[u64],
+    contact_count: usize,
+    ranges: &[u64],
+    range_count: usize,
+    ask: Ask,
+    chain: &[u64],
+) -> Walked
+    ensures { λ r. ⌜ Walks (now (contacts .entry)) «contact_count» (now (ranges .entry)) «range_count» ask (now (chain .entry)) r ⌝ }
+{
+    if !is_plan(contacts, contact_count, ranges, range_count) {
+        return Walked::Refused(Refusal::NoPlan);
+    }
+    if !is_good_ask(ask) {
+        return Walked::Refused(Refusal::AskValue);
+    }
+    if ask.source.0 == ask.destination.0 {
+        return Walked::Refused(Refusal::SameNode);
+    }
+    walk_plan(contacts, contact_count, ranges, range_count, ask, chain)
+}
