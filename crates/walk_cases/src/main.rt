@@ -1,0 +1,25 @@
+// `timing::walk` over chains whose answers are known: a line a case, its name and the answer. The
+// answers in `stdout` were computed by another program, from the request's definitions.
+mod asks;
+mod chains;
+mod figures;
+mod long;
+mod loops;
+mod order;
+mod plans;
+mod show;
+mod tables;
+
+fn main() {
+    figures::cases();
+    figures::edges();
+    figures::top();
+    chains::cases();
+    chains::numbers();
+    loops::repeated();
+    loops::excluded();
+    asks::cases();
+    tables::cases();
+    order::cases();
+    long::cases();
+}
