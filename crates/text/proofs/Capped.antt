@@ -17,9 +17,11 @@ use Rattle.plan.specs.Model.{goodContact, goodRange}
 use Rattle.plan.specs.Plan.{Plan, GoodContact, GoodRange}
 use Rattle.plan.specs.Verdict.{Verdict, holds, fails}
 use Rattle.plan.proofs.Tests.{goodContact-tells, goodRange-tells}
+use Rattle.text.specs.declared.said.Said.{Said}
+use Rattle.text.specs.declared.said.Said.the-variants.{AContact, ARange, Nothing}
 use Rattle.text.specs.Digits.{nought, valueFrom, value}
 use Rattle.text.specs.Reading.{afterRange, tooMany, badValue}
-use Rattle.text.specs.Model.{Said, aContact, aRange, nothing, rowFault, contactFault, rangeFault, withContact, withRange, unless, judge, capped, cappedFrom, cappedContact, cappedRange, cappedSaid}
+use Rattle.text.specs.Model.{rowFault, contactFault, rangeFault, withContact, withRange, unless, judge, capped, cappedFrom, cappedContact, cappedRange, cappedSaid}
 
 capped-step : (v d : ℕ) → capped (capped v * 10 + d) ≡ capped (v * 10 + d)
 unfolding capped
@@ -79,7 +81,7 @@ module _ (r : Range) where
 -- ---- rows that are not good are judged alike
 
 module _ (rows : Plan) where
-  contact-bad : (c d : Contact) → goodContact c ≡ false → goodContact d ≡ false → judge rows (aContact c) ≡ judge rows (aContact d)
+  contact-bad : (c d : Contact) → goodContact c ≡ false → goodContact d ≡ false → judge rows (AContact c) ≡ judge rows (AContact d)
   unfolding judge contactFault rowFault unless
   contact-bad c d e f = rw (e, f) (go (ltb 0 (length (rows .ranges))) (leb mostContacts (length (rows .contacts))))
     where
@@ -89,7 +91,7 @@ module _ (rows : Plan) where
       go false true = refl
       go false false = refl
 
-  range-bad : (r s : Range) → goodRange r ≡ false → goodRange s ≡ false → judge rows (aRange r) ≡ judge rows (aRange s)
+  range-bad : (r s : Range) → goodRange r ≡ false → goodRange s ≡ false → judge rows (ARange r) ≡ judge rows (ARange s)
   unfolding judge rangeFault rowFault unless
   range-bad r s e f = rw (e, f) (go (leb mostRanges (length (rows .ranges))))
     where
@@ -99,24 +101,24 @@ module _ (rows : Plan) where
 
   pub capped-judged : (s : Said) → judge rows (cappedSaid s) ≡ judge rows s
   unfolding cappedSaid
-  capped-judged (aContact c) = go refl (goodContact-tells (cappedContact c)) refl (goodContact-tells c)
+  capped-judged (AContact c) = go refl (goodContact-tells (cappedContact c)) refl (goodContact-tells c)
     where
-      same : cappedContact c ≡ c → judge rows (aContact (cappedContact c)) ≡ judge rows (aContact c)
-      same e = ap (λ (d : Contact). judge rows (aContact d)) e
+      same : cappedContact c ≡ c → judge rows (AContact (cappedContact c)) ≡ judge rows (AContact c)
+      same e = ap (λ (d : Contact). judge rows (AContact d)) e
 
       go : {a b : Bool} → goodContact (cappedContact c) ≡ a → Verdict (GoodContact (cappedContact c)) a → goodContact c ≡ b → Verdict (GoodContact c) b
-          → judge rows (aContact (cappedContact c)) ≡ judge rows (aContact c)
+          → judge rows (AContact (cappedContact c)) ≡ judge rows (AContact c)
       go e (holds g) f w = same (contact-after c g)
       go e (fails n) f (holds g) = same (contact-before c g)
       go e (fails n) f (fails m) = contact-bad (cappedContact c) c e f
-  capped-judged (aRange r) = go refl (goodRange-tells (cappedRange r)) refl (goodRange-tells r)
+  capped-judged (ARange r) = go refl (goodRange-tells (cappedRange r)) refl (goodRange-tells r)
     where
-      same : cappedRange r ≡ r → judge rows (aRange (cappedRange r)) ≡ judge rows (aRange r)
-      same e = ap (λ (d : Range). judge rows (aRange d)) e
+      same : cappedRange r ≡ r → judge rows (ARange (cappedRange r)) ≡ judge rows (ARange r)
+      same e = ap (λ (d : Range). judge rows (ARange d)) e
 
       go : {a b : Bool} → goodRange (cappedRange r) ≡ a → Verdict (GoodRange (cappedRange r)) a → goodRange r ≡ b → Verdict (GoodRange r) b
-          → judge rows (aRange (cappedRange r)) ≡ judge rows (aRange r)
+          → judge rows (ARange (cappedRange r)) ≡ judge rows (ARange r)
       go e (holds g) f w = same (range-after r g)
       go e (fails n) f (holds g) = same (range-before r g)
       go e (fails n) f (fails m) = range-bad (cappedRange r) r e f
-  capped-judged nothing = refl
+  capped-judged Nothing = refl

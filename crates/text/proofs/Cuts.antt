@@ -50,7 +50,7 @@ lines-left b (c ∷ bs) h =
     let none = no-mark lineFeed b (c ∷ bs) h in
     rw (none .0) (ap (inFront b) (lines-left c bs (none .1)))
 
-lineIn-ended : (bs : List ℕ) (ended : Bool) → lineIn bs ended .ended ≡ ended
+pub lineIn-ended : (bs : List ℕ) (ended : Bool) → lineIn bs ended .ended ≡ ended
 unfolding lineIn fronted
 lineIn-ended [] ended = refl
 lineIn-ended (b ∷ bs) ended = go (eqb b tab) refl (lineIn-ended bs ended)

@@ -19,7 +19,8 @@ use Rattle.plan.specs.Verdict.{Verdict, holds, fails}
 use Rattle.plan.proofs.Tests.{goodContact-tells, goodRange-tells}
 use Rattle.plan.proofs.Verdicts.{tells-lt}
 use Rattle.text.specs.Lines.{Line}
-use Rattle.text.specs.Model.{aContact, aRange, nothing, saidBy, contactFault, rangeFault, withContact, withRange, Judged, faulty, taken, unless, judge}
+use Rattle.text.specs.declared.said.Said.the-variants.{AContact, ARange, Nothing}
+use Rattle.text.specs.Model.{saidBy, contactFault, rangeFault, withContact, withRange, Judged, faulty, taken, unless, judge}
 use Rattle.text.specs.Reading.{Fault, afterRange, order, RowFault, HasFault, shapeless, late, of-contact, of-range}
 use Rattle.text.specs.Rows.{contactWord, rangeWord, Shaped, contactOf, rangeOf, contactLine, rangeLine, planLines}
 use Rattle.text.proofs.RowFaults.{GoodRows, rows-more, row-faultless, RowJudged, fine, at-fault, row-judged, row-order}
@@ -91,7 +92,7 @@ module _ (rows : Plan) (l : Line) where
   unfolding planLines withRange
   range-more s = rw (map-append, range-line l s) (sym (append-assoc (map contactLine (rows .contacts)) (map rangeLine (rows .ranges)) (l ∷ [])))
 
-  contact-judged : Shaped contactWord l → LineJudged rows l (judge rows (aContact (contactOf l)))
+  contact-judged : Shaped contactWord l → LineJudged rows l (judge rows (AContact (contactOf l)))
   unfolding judge contactFault unless order withContact
   contact-judged s =
       go (tells-lt 0 (length (rows .ranges)))
@@ -112,7 +113,7 @@ module _ (rows : Plan) (l : Line) where
       go (fails h) (at-fault r first) =
           found (of-contact s r) (λ g k. ⊎-elim (first g) (λ e. absurd (h (e .0))) (contact-has rows l s k))
 
-  range-judged : Shaped rangeWord l → LineJudged rows l (judge rows (aRange (rangeOf l)))
+  range-judged : Shaped rangeWord l → LineJudged rows l (judge rows (ARange (rangeOf l)))
   unfolding judge rangeFault unless withRange
   range-judged s = go (row-judged mostRanges GoodRange rangeSpan goodRange goodRange-tells (rows .ranges) (rangeOf l))
     where
@@ -128,7 +129,7 @@ module _ (rows : Plan) (l : Line) where
   line-judged = go (shaped-tells contactWord l) (shaped-tells rangeWord l)
     where
       go : {a b : Bool} → Verdict (Shaped contactWord l) a → Verdict (Shaped rangeWord l) b
-          → LineJudged rows l (judge rows (cond a (aContact (contactOf l)) (cond b (aRange (rangeOf l)) nothing)))
+          → LineJudged rows l (judge rows (cond a (AContact (contactOf l)) (cond b (ARange (rangeOf l)) Nothing)))
       go (holds s) v = contact-judged s
       go (fails s) (holds t) = range-judged t
       go (fails s) (fails t) = found (shapeless s t) (λ g k. zero-le)

@@ -24,7 +24,7 @@ use Rattle.plan.specs.Plan.{Plan, Each, NoTwo, Valid}
 use Rattle.plan.specs.Verdict.{Verdict, holds, fails}
 use Rattle.plan.proofs.Verdicts.{tells-lt}
 use Rattle.text.specs.Lines.{Line, linesOf, glue}
-use Rattle.text.specs.Model.{readModel}
+use Rattle.text.specs.Model.{readModel, noRows}
 use Rattle.text.specs.Reading.{Fault, refusalOf, FaultAt, FirstFault, Outcome, Accepted, Refused, ReadsText, too-long, no-header, a-plan, at-line}
 use Rattle.text.specs.Rows.{header, planLines, render}
 use Rattle.text.proofs.Lines.{glued-back}
@@ -77,8 +77,8 @@ reads-text-determined (at-line r k f h e a) (at-line s j g h′ e′ b) = ap Ref
 
 -- ---- the model's outcome
 
-no-rows : Valid (record { contacts = []; ranges = [] })
-unfolding Each NoTwo
+no-rows : Valid noRows
+unfolding noRows Each NoTwo
 no-rows = record {
   contacts-most = zero-le;
   ranges-most = zero-le;
@@ -89,10 +89,10 @@ no-rows = record {
 }
 
 pub model-reads : (text : List ℕ) → ReadsText text (readModel text)
-unfolding readModel planLines render
+unfolding readModel noRows planLines render
 model-reads text =
     go (tells-lt mostText (length text)) (same-tells (take (length header) text) header)
-    (lines-read 2 (record { contacts = []; ranges = [] }) lines lines no-rows refl refl)
+    (lines-read 2 noRows lines lines no-rows refl refl)
   where
     lines : List Line
     lines = linesOf (drop (length header) text)

@@ -1,3 +1,4 @@
+pub mod Calls
 pub mod Digits
 pub mod Lines
 pub mod Model

@@ -19,6 +19,8 @@ use Rattle.plan.specs.declared.rows.Range.{Range}
 use Rattle.plan.specs.declared.rows.Span.{Span}
 use Rattle.plan.specs.Plan.{Plan, contactSpan, rangeSpan}
 use Rattle.plan.specs.Model.{goodContact, goodRange, overlap, each}
+use Rattle.text.specs.declared.said.Said.{Said}
+use Rattle.text.specs.declared.said.Said.the-variants.{AContact, ARange, Nothing}
 use Rattle.text.specs.Digits.{nought}
 use Rattle.text.specs.Lines.{Line, blank, fronted, linesOf}
 use Rattle.text.specs.Rows.{header, contactWord, rangeWord, contactOf, rangeOf}
@@ -53,14 +55,8 @@ isNumber ds = ltb 0 (length ds) && each isDigit ds && (not (eqb (getD ds 0 0) no
 unfoldable pub isShaped : List ℕ → Line → Bool
 isShaped word l = same (l .word) word && eqb (length (l .fields)) 5 && each isNumber (l .fields) && l .ended
 
--- what a line says
-pub data Said : Type 0 where
-  aContact : Contact → Said
-  aRange : Range → Said
-  nothing : Said
-
 unfoldable pub saidBy : Line → Said
-saidBy l = cond (isShaped contactWord l) (aContact (contactOf l)) (cond (isShaped rangeWord l) (aRange (rangeOf l)) nothing)
+saidBy l = cond (isShaped contactWord l) (AContact (contactOf l)) (cond (isShaped rangeWord l) (ARange (rangeOf l)) Nothing)
 
 -- ---- its faults, held against the rows so far
 
@@ -91,11 +87,14 @@ unless none p = taken p
 unless (some f) p = faulty f
 
 unfoldable pub judge : Plan → Said → Judged
-judge rows (aContact c) = unless (contactFault rows c) (withContact rows c)
-judge rows (aRange r) = unless (rangeFault rows r) (withRange rows r)
-judge rows nothing = faulty badShape
+judge rows (AContact c) = unless (contactFault rows c) (withContact rows c)
+judge rows (ARange r) = unless (rangeFault rows r) (withRange rows r)
+judge rows Nothing = faulty badShape
 
 -- ---- line by line
+
+unfoldable pub noRows : Plan
+noRows = record { contacts = []; ranges = [] }
 
 -- the lines from line n on, after lines that say those rows
 unfoldable pub readLines : ℕ → Plan → List Line → Outcome
@@ -104,7 +103,7 @@ readLines n rows (l ∷ ls) = elim (judge rows (saidBy l)) [ faulty f ↦ Refuse
 
 unfoldable pub readModel : List ℕ → Outcome
 readModel text =
-    let outcome = readLines 2 (record { contacts = []; ranges = [] }) (linesOf (drop (length header) text)) in
+    let outcome = readLines 2 noRows (linesOf (drop (length header) text)) in
     cond (ltb mostText (length text)) (Refused LongText) (cond (same (take (length header) text) header) outcome (Refused NoHeader))
 
 -- ---- what 64 bits hold
@@ -136,6 +135,6 @@ cappedRange r = record {
 }
 
 unfoldable pub cappedSaid : Said → Said
-cappedSaid (aContact c) = aContact (cappedContact c)
-cappedSaid (aRange r) = aRange (cappedRange r)
-cappedSaid nothing = nothing
+cappedSaid (AContact c) = AContact (cappedContact c)
+cappedSaid (ARange r) = ARange (cappedRange r)
+cappedSaid Nothing = Nothing

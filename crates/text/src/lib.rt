@@ -1,2 +1,9 @@
-// Plan text: a contact plan as lines of bytes, read and written. What a plan text is, and what reading
-// one gives, stands in specs/; so far the crate holds these definitions and their theorems.
+// Plan text: a contact plan as lines of bytes. What a plan text is, what reading one gives and what the
+// calls `read` and `write` promise stands in specs/, and their theorems in proofs/; the code holds only
+// the types that they name. `parse` has `read`, and `print` has `write`.
+mod answer;
+mod said;
+
+pub use answer::PlanRead;
+pub use answer::PlanWritten;
+pub use said::Said;

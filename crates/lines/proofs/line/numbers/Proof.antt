@@ -1,0 +1,117 @@
+-- `lines::line::numbers` meets its contract. The loop's invariant: the first k numbers are in the row, and what is asked of the line is asked of its fields from place `at` on.
+-- Assumes nothing.
+use mathlib.Core.Bool.{false≢true}
+use mathlib.Core.List.{_++_, map}
+use mathlib.Core.Path.{_≡_, refl, sym, _∙_}
+use Prim.Native.Nat.{_+_, _-_, _≤_, _<_}
+use native.Mathlib.Omega.{arith}
+use borrow.Author.Tests.{eqb-true}
+use borrow.Author.Needs.{needs}
+use lib.ListN.{length, take, length-set}
+use Rattle.lines.specs.Model.{cappedValue, fieldsFrom, goodFields}
+use Rattle.lines.proofs.LineCode.{numbers-goes, numbers-stored, next-inside, numbers-stops, numbers-ends, numbers-all}
+use Rattle.lines.proofs.line.numbers.Statement.{statement}
+use Rattle.lines.proofs.line.numbers.Tie as tie
+
+abbrev Inv-loop : tie.InvT-loop
+Inv-loop line from row₀ at₀ k₀ row at k =
+    (k ≤ 5) × (at ≤ length line) × (length row ≡ 5) × (goodFields 5 (fieldsFrom line from) ≡ goodFields (5 - k) (fieldsFrom line at))
+    × (map cappedValue (fieldsFrom line from) ≡ take k row ++ map cappedValue (fieldsFrom line at))
+
+abbrev μ-loop : tie.MeasureT-loop
+μ-loop line from row₀ at₀ k₀ row at k = 5 - k
+
+loop-holds : tie.Need-loop-holds Inv-loop μ-loop
+loop-holds c =
+    let pre = c .before .before .pre in
+    (omega arith, pre .1, pre .0, refl, refl)
+
+field-at-requires : tie.Need-field-at-requires Inv-loop μ-loop
+field-at-requires c κs = search needs
+
+enum-known-v : tie.Need-enum-known-v Inv-loop μ-loop
+enum-known-v c = search needs
+
+mul-row : tie.Need-mul-row Inv-loop μ-loop
+mul-row c = omega arith
+
+slice-write-row : tie.Need-slice-write-row Inv-loop μ-loop
+slice-write-row c = omega arith
+
+enum-told : tie.Need-enum-told Inv-loop μ-loop
+enum-told c = search needs
+
+same-length : tie.Need-same-length Inv-loop μ-loop
+same-length c =
+    let at-loop = c .before .before .before .before in
+    let start = at-loop .before .before .before in
+    let pre = start .pre in
+    omega (arith, pre .0, at-loop .loop .inv .2)
+
+returns : tie.Need-returns Inv-loop μ-loop
+returns c =
+    let at-test = c .before .before .before in
+    let at-loop = at-test .before in (
+      sym (at-loop .loop .inv .3 ∙ numbers-stops _ _ _ (at-test .loop-test .taken)
+          (sym (c .before .before .field-at .ensures) ∙ c .enum-told .given .1)),
+      λ e. absurd (false≢true e),
+    )
+
+add-k : tie.Need-add-k Inv-loop μ-loop
+add-k c = omega arith
+
+loop-less : tie.Need-loop-less Inv-loop μ-loop
+loop-less c = omega arith
+
+loop-again : tie.Need-loop-again Inv-loop μ-loop
+loop-again c =
+    let at-field-at = c .before .before .before in
+    let at-test = at-field-at .before in
+    let at-loop = at-test .before in
+    let told = sym (at-field-at .field-at .ensures) ∙ c .before .v .given .1 in
+    let test = at-test .loop-test .taken in
+    let room : at-loop .loop .k < length (at-loop .loop .row) = omega (arith, at-loop .loop .inv .2, test) in (
+      omega arith,
+      next-inside _ _ (at-loop .loop .k) _ _ told,
+      simp length-set (at-loop .loop .inv .2),
+      at-loop .loop .inv .3
+          ∙ numbers-goes _ _ _ _ _ test told,
+      at-loop .loop .inv .4 ∙ numbers-stored _ _ _ _ _ (at-loop .loop .row) room told,
+    )
+
+same-length-2 : tie.Need-same-length-2 Inv-loop μ-loop
+same-length-2 c =
+    let start = c .before .before .before .before in
+    let pre = start .pre in
+    omega (arith, pre .0, c .before .loop .inv .2)
+
+returns-2 : tie.Need-returns-2 Inv-loop μ-loop
+returns-2 c =
+    let start = c .before .before .before .before in
+    let inv = c .before .loop .inv in (
+      sym (inv .3 ∙ sym (numbers-ends _ _ _ (inv .1) (inv .0) (c .loop-test .left))),
+      λ e. numbers-all _ _ _ _ _ (inv .2) (inv .0)
+          (c .loop-test .left) (inv .4)
+          (let end : length (start .args .line .now) ≤ c .before .loop .at = omega
+          (arith, eqb-true (c .before .loop .at) (length (start .args .line .now)) e) in end),
+    )
+
+pub numbers-spec : {M : Type 1} → statement M
+numbers-spec =
+    tie.close
+    (tie.spec
+    Inv-loop
+    μ-loop
+    loop-holds
+    field-at-requires
+    enum-known-v
+    mul-row
+    slice-write-row
+    enum-told
+    same-length
+    returns
+    add-k
+    loop-less
+    loop-again
+    same-length-2
+    returns-2)

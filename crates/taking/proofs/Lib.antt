@@ -1,0 +1,3 @@
+-- What the code that takes rows knows of the model.
+pub mod JudgeCode
+pub mod TablesCode
