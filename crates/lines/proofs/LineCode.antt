@@ -19,7 +19,7 @@ use lib.Seq.{take-all, take-suc-set, drop-drop}
 use Rattle.plan.specs.declared.rows.Contact.{Contact}
 use Rattle.plan.specs.declared.rows.Range.{Range}
 use Rattle.plan.specs.Model.{each}
-use Rattle.plan.specs.Tables.{contactAt, rangeAt}
+use Rattle.plan.specs.Tables.{words, contactAt, rangeAt}
 use Rattle.plan.specs.Verdict.{Verdict, holds, fails}
 use Rattle.plan.proofs.Verdicts.{tells-eq}
 use Rattle.lines.specs.declared.line.Field.the-variants.{Number, Bad}
@@ -255,7 +255,7 @@ module _ (line : List ℕ) (end : ℕ) (ends : end ≡ 0 + upTo tab (drop 0 line
   regroup true false n = refl
   regroup false e n = refl
 
-  shaped : (w : List ℕ) → isShaped w (lineIn line true) ≡ same word w && goodFields 5 fields
+  shaped : (w : List ℕ) → isShaped w words (lineIn line true) ≡ same word w && goodFields 5 fields
   unfolding isShaped goodFields
   shaped w = rw whole (regroup (same word w) (eqb (length fields) 5) (each isNumber fields))
 
@@ -270,7 +270,7 @@ module _ (line : List ℕ) (end : ℕ) (ends : end ≡ 0 + upTo tab (drop 0 line
         → AContact c ≡ cappedSaid (saidBy (lineIn line true))
     unfolding saidBy cappedSaid cappedContact contactOf fields word
     said-contact row c s er ec =
-        let is : isShaped contactWord (lineIn line true) ≡ true = shaped contactWord ∙ ap₂ (λ (x y : Bool). x && y) s (sym eb ∙ good) in
+        let is : isShaped contactWord words (lineIn line true) ≡ true = shaped contactWord ∙ ap₂ (λ (x y : Bool). x && y) s (sym eb ∙ good) in
         let its : contactAt (map cappedValue fields) 0 ≡ cappedContact (contactAt (map value fields) 0) = λ i. record {
           start = record { 0 = sym (capped-word fields 0) i };
           end = record { 0 = sym (capped-word fields 1) i };
@@ -284,8 +284,8 @@ module _ (line : List ℕ) (end : ℕ) (ends : end ≡ 0 + upTo tab (drop 0 line
         → row ≡ map cappedValue (fieldsFrom line end) → r ≡ rangeAt row 0 → ARange r ≡ cappedSaid (saidBy (lineIn line true))
     unfolding saidBy cappedSaid cappedRange rangeOf fields word
     said-range row r n s er ec =
-        let not-contact : isShaped contactWord (lineIn line true) ≡ false = shaped contactWord ∙ ap (λ (x : Bool). x && goodFields 5 fields) n in
-        let is : isShaped rangeWord (lineIn line true) ≡ true = shaped rangeWord ∙ ap₂ (λ (x y : Bool). x && y) s (sym eb ∙ good) in
+        let not-contact : isShaped contactWord words (lineIn line true) ≡ false = shaped contactWord ∙ ap (λ (x : Bool). x && goodFields 5 fields) n in
+        let is : isShaped rangeWord words (lineIn line true) ≡ true = shaped rangeWord ∙ ap₂ (λ (x y : Bool). x && y) s (sym eb ∙ good) in
         let its : rangeAt (map cappedValue fields) 0 ≡ cappedRange (rangeAt (map value fields) 0) = λ i. record {
           start = record { 0 = sym (capped-word fields 0) i };
           end = record { 0 = sym (capped-word fields 1) i };
@@ -298,8 +298,8 @@ module _ (line : List ℕ) (end : ℕ) (ends : end ≡ 0 + upTo tab (drop 0 line
     pub said-other : same (take end line) contactWord ≡ false → same (take end line) rangeWord ≡ false → Nothing ≡ cappedSaid (saidBy (lineIn line true))
     unfolding saidBy cappedSaid fields word
     said-other n m =
-        let not-contact : isShaped contactWord (lineIn line true) ≡ false = shaped contactWord ∙ ap (λ (x : Bool). x && goodFields 5 fields) n in
-        let not-range : isShaped rangeWord (lineIn line true) ≡ false = shaped rangeWord ∙ ap (λ (x : Bool). x && goodFields 5 fields) m in
+        let not-contact : isShaped contactWord words (lineIn line true) ≡ false = shaped contactWord ∙ ap (λ (x : Bool). x && goodFields 5 fields) n in
+        let not-range : isShaped rangeWord words (lineIn line true) ≡ false = shaped rangeWord ∙ ap (λ (x : Bool). x && goodFields 5 fields) m in
         rw (not-contact, not-range)
 
 pub word-end : (line : List ℕ) (end : ℕ) → end ≡ 0 + upTo tab (drop 0 line) → end ≤ length line

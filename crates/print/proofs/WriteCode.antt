@@ -10,7 +10,7 @@ use native.Mathlib.Omega.{arith}
 use lib.ListN.{length, drop}
 use Rattle.units.specs.declared.Refusal.the-variants.{ShortOutput}
 use Rattle.plan.specs.Tables.{IsPlan}
-use Rattle.text.specs.declared.answer.PlanWritten.the-variants.{Length, Refused as NotWritten}
+use Rattle.text.specs.declared.answer.Written.the-variants.{Length, Refused as NotWritten}
 use Rattle.text.specs.Calls.{textOf, Writes, too-short, written}
 use Rattle.text.specs.Rows.{header, contactWord, rangeWord}
 use Rattle.print.specs.Model.{Wrote, rowBytes}

@@ -3,7 +3,7 @@ use crate::length::text_length;
 use crate::put::put_bytes;
 use crate::put::put_rows;
 use plan::is_plan;
-use text::PlanWritten;
+use text::Written;
 use units::Refusal;
 ghost use Prim.Native.Nat.{_*_, _≤_};
 ghost use lib.ListN.{length};
@@ -28,16 +28,16 @@ pub fn write(
     ranges: &[u64],
     range_count: usize,
     out: &mut [u8],
-) -> PlanWritten
+) -> Written
     ensures { λ r. ⌜ Writes (now (contacts .entry)) «contact_count» (now (ranges .entry)) «range_count» (now (out .entry)) r (now (out .exit)) ⌝ }
 {
     if !is_plan(contacts, contact_count, ranges, range_count) {
-        return PlanWritten::Refused(Refusal::NoPlan);
+        return Written::Refused(Refusal::NoPlan);
     }
     let needed = text_length(contacts, contact_count, ranges, range_count);
     if out.len() < needed {
-        return PlanWritten::Refused(Refusal::ShortOutput(needed as u64));
+        return Written::Refused(Refusal::ShortOutput(needed as u64));
     }
     put_plan(out, contacts, contact_count, ranges, range_count);
-    PlanWritten::Length(needed)
+    Written::Length(needed)
 }

@@ -13,6 +13,7 @@ use lib.ListN.{length}
 use Rattle.units.specs.Limits.{mostContacts, mostRanges}
 use Rattle.plan.specs.declared.rows.Contact.{Contact}
 use Rattle.plan.specs.declared.rows.Range.{Range}
+use Rattle.plan.specs.Tables.{words}
 use Rattle.plan.specs.Model.{goodContact, goodRange}
 use Rattle.plan.specs.Plan.{Plan, GoodContact, GoodRange, contactSpan, rangeSpan, Valid}
 use Rattle.plan.specs.Verdict.{Verdict, holds, fails}
@@ -59,14 +60,14 @@ valid-plan c r = record {
 
 module _ (rows : Plan) (l : Line) where
   -- the faults of a contact line, and of a range line
-  contact-has : Shaped contactWord l → {g : Fault} → HasFault rows l g
+  contact-has : Shaped contactWord words l → {g : Fault} → HasFault rows l g
       → ContactFault (rows .contacts) (contactOf l) g ⊎ ((0 < length (rows .ranges)) × (g ≡ afterRange))
   contact-has s (shapeless a b) = absurd (a s)
   contact-has s (late t h) = inr (h, refl)
   contact-has s (of-contact t r) = inl r
   contact-has s (of-range t r) = absurd (one-shape l s t)
 
-  range-has : Shaped rangeWord l → {g : Fault} → HasFault rows l g → RangeFault (rows .ranges) (rangeOf l) g
+  range-has : Shaped rangeWord words l → {g : Fault} → HasFault rows l g → RangeFault (rows .ranges) (rangeOf l) g
   range-has s (shapeless a b) = absurd (b s)
   range-has s (late t h) = absurd (one-shape l t s)
   range-has s (of-contact t r) = absurd (one-shape l t s)
@@ -84,15 +85,15 @@ no-ranges [] h = refl
 no-ranges (r ∷ rs) h = absurd (h (suc-le-suc zero-le))
 
 module _ (rows : Plan) (l : Line) where
-  contact-more : Shaped contactWord l → rows .ranges ≡ [] → planLines (withContact rows (contactOf l)) ≡ planLines rows ++ (l ∷ [])
+  contact-more : Shaped contactWord words l → rows .ranges ≡ [] → planLines (withContact rows (contactOf l)) ≡ planLines rows ++ (l ∷ [])
   unfolding planLines withContact
   contact-more s e = rw (e, map-append, contact-line l s) (simp append-nil)
 
-  range-more : Shaped rangeWord l → planLines (withRange rows (rangeOf l)) ≡ planLines rows ++ (l ∷ [])
+  range-more : Shaped rangeWord words l → planLines (withRange rows (rangeOf l)) ≡ planLines rows ++ (l ∷ [])
   unfolding planLines withRange
   range-more s = rw (map-append, range-line l s) (sym (append-assoc (map contactLine (rows .contacts)) (map rangeLine (rows .ranges)) (l ∷ [])))
 
-  contact-judged : Shaped contactWord l → LineJudged rows l (judge rows (AContact (contactOf l)))
+  contact-judged : Shaped contactWord words l → LineJudged rows l (judge rows (AContact (contactOf l)))
   unfolding judge contactFault unless order withContact
   contact-judged s =
       go (tells-lt 0 (length (rows .ranges)))
@@ -113,7 +114,7 @@ module _ (rows : Plan) (l : Line) where
       go (fails h) (at-fault r first) =
           found (of-contact s r) (λ g k. ⊎-elim (first g) (λ e. absurd (h (e .0))) (contact-has rows l s k))
 
-  range-judged : Shaped rangeWord l → LineJudged rows l (judge rows (ARange (rangeOf l)))
+  range-judged : Shaped rangeWord words l → LineJudged rows l (judge rows (ARange (rangeOf l)))
   unfolding judge rangeFault unless withRange
   range-judged s = go (row-judged mostRanges GoodRange rangeSpan goodRange goodRange-tells (rows .ranges) (rangeOf l))
     where
@@ -126,9 +127,9 @@ module _ (rows : Plan) (l : Line) where
 
   pub line-judged : LineJudged rows l (judge rows (saidBy l))
   unfolding judge saidBy order
-  line-judged = go (shaped-tells contactWord l) (shaped-tells rangeWord l)
+  line-judged = go (shaped-tells contactWord words l) (shaped-tells rangeWord words l)
     where
-      go : {a b : Bool} → Verdict (Shaped contactWord l) a → Verdict (Shaped rangeWord l) b
+      go : {a b : Bool} → Verdict (Shaped contactWord words l) a → Verdict (Shaped rangeWord words l) b
           → LineJudged rows l (judge rows (cond a (AContact (contactOf l)) (cond b (ARange (rangeOf l)) Nothing)))
       go (holds s) v = contact-judged s
       go (fails s) (holds t) = range-judged t

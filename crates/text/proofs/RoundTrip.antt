@@ -15,14 +15,14 @@ use Rattle.plan.specs.Tables.{words, planOf, IsPlan}
 use Rattle.plan.proofs.Lent.{length-contacts, length-ranges}
 use Rattle.text.specs.declared.answer.PlanRead.{PlanRead}
 use Rattle.text.specs.declared.answer.PlanRead.the-variants.{Rows}
-use Rattle.text.specs.declared.answer.PlanWritten.{PlanWritten}
-use Rattle.text.specs.declared.answer.PlanWritten.the-variants.{Length}
+use Rattle.text.specs.declared.answer.Written.{Written}
+use Rattle.text.specs.declared.answer.Written.the-variants.{Length}
 use Rattle.text.specs.Calls.{Reads, few-contacts, few-ranges, refused, accepted, textOf, Writes, no-plan, too-short, written}
 use Rattle.text.specs.Reading.{Accepted}
 use Rattle.text.proofs.Calls.{read-counts, apart}
 use Rattle.text.proofs.Theorems.{reads-text-determined, accepts-exactly}
 
-pub writes-determined : {contacts ranges out : List ℕ} {m n : ℕ} {a b : PlanWritten} {out₁ out₂ : List ℕ} → Writes contacts m ranges n out a out₁
+pub writes-determined : {contacts ranges out : List ℕ} {m n : ℕ} {a b : Written} {out₁ out₂ : List ℕ} → Writes contacts m ranges n out a out₁
     → Writes contacts m ranges n out b out₂ → (a ≡ b) × (out₁ ≡ out₂)
 writes-determined (no-plan f) (no-plan g) = (refl, refl)
 writes-determined (no-plan f) (too-short p h) = absurd (f p)
@@ -50,7 +50,7 @@ read-is-plan {text} (accepted m n cs rs lc lr reads kc kr) =
     )
 
 pub write-after-read : {text contacts ranges cs rs : List ℕ} {m n : ℕ} → Reads text contacts ranges (Rows m n) cs rs
-    → {out out′ : List ℕ} {a : PlanWritten} → Writes cs m rs n out a out′ → length text ≤ length out
+    → {out out′ : List ℕ} {a : Written} → Writes cs m rs n out a out′ → length text ≤ length out
     → (a ≡ Length (length text)) × (out′ ≡ text ++ drop (length text) out)
 write-after-read {text} {cs} {rs} {m} {n} reads {out} writes room =
     let t = read-is-plan reads in

@@ -18,7 +18,7 @@ use Rattle.plan.specs.declared.rows.Contact.{Contact}
 use Rattle.plan.specs.declared.rows.Range.{Range}
 use Rattle.plan.specs.Model.{each}
 use Rattle.plan.specs.Plan.{Plan}
-use Rattle.plan.specs.Tables.{contactAt, rangeAt}
+use Rattle.plan.specs.Tables.{words, contactAt, rangeAt}
 use Rattle.plan.proofs.Tests.{each-tells}
 use Rattle.plan.proofs.Verdicts.{tells-eq, both, denied, true-holds}
 use Rattle.text.specs.Digits.{Number, value, decimal}
@@ -40,9 +40,9 @@ decimals-values (f ∷ fs) numbers =
     ap₂ (λ (g : List ℕ) (gs : List (List ℕ)). g ∷ gs) (decimal-value f (numbers f (List·Memᴰ·head refl)))
     (decimals-values fs (λ g m. numbers g (List·Memᴰ·tail m)))
 
-line-shaped : (word ns : List ℕ) → length ns ≡ 5 → Shaped word (lineOf word ns)
+line-shaped : (word ns : List ℕ) (count : ℕ) → length ns ≡ count → Shaped word count (lineOf word ns)
 unfolding lineOf
-line-shaped word ns e = record { word-is = refl; five = length-map ns decimal ∙ e; numbers = mem-each Number (map decimal ns) number; ended = refl }
+line-shaped word ns count e = record { word-is = refl; counted = length-map ns decimal ∙ e; numbers = mem-each Number (map decimal ns) number; ended = refl }
   where
     number : (f : List ℕ) → List·Memᴰ f (map decimal ns) → Number f
     number f m = let n = Memᴰ·of-map decimal ns m in subst Number (n .2) (decimal-number (n .0))
@@ -54,9 +54,9 @@ line-plain word ns w = plain w (λ f m. let n = Memᴰ·of-map decimal ns m in s
     digits : (n : ℕ) → Plain (decimal n)
     digits n b m = let d = decimal-digits n b m in (λ e. omega arith, λ e. omega arith)
 
-shaped-line : (word : List ℕ) (l : Line) → Shaped word l → lineOf word (map value (l .fields)) ≡ l
+shaped-line : (word : List ℕ) (count : ℕ) (l : Line) → Shaped word count l → lineOf word (map value (l .fields)) ≡ l
 unfolding lineOf
-shaped-line word l s =
+shaped-line word count l s =
     let fields = decimals-values (l .fields) (λ f m. each-mem Number (l .fields) (s .numbers) m) in
     λ i. record { word = sym (s .word-is) i; fields = fields i; ended = sym (s .ended) i }
 
@@ -70,18 +70,18 @@ five-numbers (a ∷ b ∷ c ∷ d ∷ []) e = absurd (omega arith)
 five-numbers (a ∷ b ∷ c ∷ d ∷ f ∷ []) e = refl
 five-numbers (a ∷ b ∷ c ∷ d ∷ f ∷ g ∷ ns) e = absurd (omega arith)
 
-shaped-five : (word : List ℕ) (l : Line) → Shaped word l → length (map value (l .fields)) ≡ 5
-shaped-five word l s = length-map (l .fields) value ∙ s .five
+shaped-count : (word : List ℕ) (count : ℕ) (l : Line) → Shaped word count l → length (map value (l .fields)) ≡ count
+shaped-count word count l s = length-map (l .fields) value ∙ s .counted
 
 -- ---- contact lines and range lines
 
-pub contact-shaped : (c : Contact) → Shaped contactWord (contactLine c)
+pub contact-shaped : (c : Contact) → Shaped contactWord words (contactLine c)
 unfolding contactLine
-contact-shaped c = line-shaped contactWord _ refl
+contact-shaped c = line-shaped contactWord _ words refl
 
-pub range-shaped : (r : Range) → Shaped rangeWord (rangeLine r)
+pub range-shaped : (r : Range) → Shaped rangeWord words (rangeLine r)
 unfolding rangeLine
-range-shaped r = line-shaped rangeWord _ refl
+range-shaped r = line-shaped rangeWord _ words refl
 
 pub contact-says : (c : Contact) → contactOf (contactLine c) ≡ c
 unfolding contactOf contactLine lineOf
@@ -92,23 +92,23 @@ pub range-says : (r : Range) → rangeOf (rangeLine r) ≡ r
 unfolding rangeOf rangeLine lineOf
 range-says r = ap (λ (ns : List ℕ). rangeAt ns 0) (values-decimals (r .start .0 ∷ r .end .0 ∷ r .a .0 ∷ r .b .0 ∷ r .light .0 ∷ []))
 
-pub contact-line : (l : Line) → Shaped contactWord l → contactLine (contactOf l) ≡ l
+pub contact-line : (l : Line) → Shaped contactWord words l → contactLine (contactOf l) ≡ l
 unfolding contactOf contactLine
-contact-line l s = ap (lineOf contactWord) (five-numbers (map value (l .fields)) (shaped-five contactWord l s)) ∙ shaped-line contactWord l s
+contact-line l s = ap (lineOf contactWord) (five-numbers (map value (l .fields)) (shaped-count contactWord words l s)) ∙ shaped-line contactWord words l s
 
-pub range-line : (l : Line) → Shaped rangeWord l → rangeLine (rangeOf l) ≡ l
+pub range-line : (l : Line) → Shaped rangeWord words l → rangeLine (rangeOf l) ≡ l
 unfolding rangeOf rangeLine
-range-line l s = ap (lineOf rangeWord) (five-numbers (map value (l .fields)) (shaped-five rangeWord l s)) ∙ shaped-line rangeWord l s
+range-line l s = ap (lineOf rangeWord) (five-numbers (map value (l .fields)) (shaped-count rangeWord words l s)) ∙ shaped-line rangeWord words l s
 
 words-differ : contactWord ≡ rangeWord → ⊥
 unfolding contactWord rangeWord
 words-differ e = omega (arith, head-eq-of-cons-eq e)
 
-pub one-shape : (l : Line) → Shaped contactWord l → Shaped rangeWord l → ⊥
+pub one-shape : (l : Line) → Shaped contactWord words l → Shaped rangeWord words l → ⊥
 one-shape l s t = words-differ (sym (s .word-is) ∙ t .word-is)
 
 lines-differ : (c : Contact) (r : Range) → contactLine c ≡ rangeLine r → ⊥
-lines-differ c r e = one-shape (contactLine c) (contact-shaped c) (subst (Shaped rangeWord) (sym e) (range-shaped r))
+lines-differ c r e = one-shape (contactLine c) (contact-shaped c) (subst (Shaped rangeWord words) (sym e) (range-shaped r))
 
 contact-same : (c d : Contact) → contactLine c ≡ contactLine d → c ≡ d
 contact-same c d e = sym (contact-says c) ∙ ap contactOf e ∙ contact-says d

@@ -50,9 +50,9 @@ ended-tells : (b : Bool) → Verdict (b ≡ true) b
 ended-tells true = holds refl
 ended-tells false = fails false≢true
 
-pub shaped-tells : (word : List ℕ) (l : Line) → Verdict (Shaped word l) (isShaped word l)
+pub shaped-tells : (word : List ℕ) (count : ℕ) (l : Line) → Verdict (Shaped word count l) (isShaped word count l)
 unfolding isShaped
-shaped-tells word l =
-    restated (λ p. record { word-is = p .0 .0 .0; five = p .0 .0 .1; numbers = p .0 .1; ended = p .1 })
-    (λ s. (((s .word-is, s .five), s .numbers), s .ended))
-    (both (both (both (same-tells (l .word) word) (tells-eq (length (l .fields)) 5)) (each-tells Number isNumber number-tells (l .fields))) (ended-tells (l .ended)))
+shaped-tells word count l =
+    restated (λ p. record { word-is = p .0 .0 .0; counted = p .0 .0 .1; numbers = p .0 .1; ended = p .1 })
+    (λ s. (((s .word-is, s .counted), s .numbers), s .ended))
+    (both (both (both (same-tells (l .word) word) (tells-eq (length (l .fields)) count)) (each-tells Number isNumber number-tells (l .fields))) (ended-tells (l .ended)))

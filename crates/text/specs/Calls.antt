@@ -14,8 +14,8 @@ use Rattle.units.specs.Limits.{mostContacts, mostRanges}
 use Rattle.plan.specs.Tables.{words, planOf, IsPlan}
 use Rattle.text.specs.declared.answer.PlanRead.{PlanRead}
 use Rattle.text.specs.declared.answer.PlanRead.the-variants.{Rows, Refused as NotRead}
-use Rattle.text.specs.declared.answer.PlanWritten.{PlanWritten}
-use Rattle.text.specs.declared.answer.PlanWritten.the-variants.{Length, Refused as NotWritten}
+use Rattle.text.specs.declared.answer.Written.{Written}
+use Rattle.text.specs.declared.answer.Written.the-variants.{Length, Refused as NotWritten}
 use Rattle.text.specs.Reading.{Accepted, Refused, ReadsText}
 use Rattle.text.specs.Rows.{render}
 
@@ -41,7 +41,7 @@ textOf contacts m ranges n = render (planOf contacts m ranges n)
 
 -- 9 where the tables are no plan; else 10 with the text's length where the output is shorter, and no lent byte changes; else the text's length: the
 -- first bytes of the output are then the text, and only they change
-pub data Writes (contacts : List ℕ) (m : ℕ) (ranges : List ℕ) (n : ℕ) (out : List ℕ) : PlanWritten → List ℕ → Type 0 where
+pub data Writes (contacts : List ℕ) (m : ℕ) (ranges : List ℕ) (n : ℕ) (out : List ℕ) : Written → List ℕ → Type 0 where
   no-plan : (IsPlan contacts m ranges n → ⊥) → Writes contacts m ranges n out (NotWritten NoPlan) out
   too-short : IsPlan contacts m ranges n → length out < length (textOf contacts m ranges n)
       → Writes contacts m ranges n out (NotWritten (ShortOutput (length (textOf contacts m ranges n)))) out

@@ -18,6 +18,7 @@ use Rattle.plan.specs.declared.rows.Contact.{Contact}
 use Rattle.plan.specs.declared.rows.Range.{Range}
 use Rattle.plan.specs.declared.rows.Span.{Span}
 use Rattle.plan.specs.Plan.{Plan, contactSpan, rangeSpan}
+use Rattle.plan.specs.Tables.{words}
 use Rattle.plan.specs.Model.{goodContact, goodRange, overlap, each}
 use Rattle.text.specs.declared.said.Said.{Said}
 use Rattle.text.specs.declared.said.Said.the-variants.{AContact, ARange, Nothing}
@@ -52,11 +53,11 @@ isDigit b = leb nought b && leb b (nought + 9)
 unfoldable pub isNumber : List ℕ → Bool
 isNumber ds = ltb 0 (length ds) && each isDigit ds && (not (eqb (getD ds 0 0) nought) || eqb (length ds) 1)
 
-unfoldable pub isShaped : List ℕ → Line → Bool
-isShaped word l = same (l .word) word && eqb (length (l .fields)) 5 && each isNumber (l .fields) && l .ended
+unfoldable pub isShaped : List ℕ → ℕ → Line → Bool
+isShaped word count l = same (l .word) word && eqb (length (l .fields)) count && each isNumber (l .fields) && l .ended
 
 unfoldable pub saidBy : Line → Said
-saidBy l = cond (isShaped contactWord l) (AContact (contactOf l)) (cond (isShaped rangeWord l) (ARange (rangeOf l)) Nothing)
+saidBy l = cond (isShaped contactWord words l) (AContact (contactOf l)) (cond (isShaped rangeWord words l) (ARange (rangeOf l)) Nothing)
 
 -- ---- its faults, held against the rows so far
 

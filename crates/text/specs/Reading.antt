@@ -13,6 +13,7 @@ use Rattle.units.specs.declared.Refusal.the-variants.{LongText, NoHeader, LineS
 use Rattle.units.specs.Limits.{mostText, mostContacts, mostRanges}
 use Rattle.plan.specs.declared.rows.Span.{Span}
 use Rattle.plan.specs.Plan.{Plan, GoodContact, GoodRange, Overlap, contactSpan, rangeSpan, Valid}
+use Rattle.plan.specs.Tables.{words}
 use Rattle.text.specs.Lines.{Line, linesOf}
 use Rattle.text.specs.Rows.{header, contactWord, rangeWord, Shaped, contactOf, rangeOf, planLines, render}
 
@@ -42,10 +43,10 @@ pub data RowFault {A : Type 0} (most : ℕ) (Good : A → Type 0) (span : A → 
 
 -- the faults of a line after lines that say these rows: 3; 5; 6, 4 and 7 of a contact; 6, 4 and 7 of a range
 pub data HasFault (rows : Plan) (l : Line) : Fault → Type 0 where
-  shapeless : (Shaped contactWord l → ⊥) → (Shaped rangeWord l → ⊥) → HasFault rows l badShape
-  late : Shaped contactWord l → 0 < length (rows .ranges) → HasFault rows l afterRange
-  of-contact : {f : Fault} → Shaped contactWord l → RowFault mostContacts GoodContact contactSpan (rows .contacts) (contactOf l) f → HasFault rows l f
-  of-range : {f : Fault} → Shaped rangeWord l → RowFault mostRanges GoodRange rangeSpan (rows .ranges) (rangeOf l) f → HasFault rows l f
+  shapeless : (Shaped contactWord words l → ⊥) → (Shaped rangeWord words l → ⊥) → HasFault rows l badShape
+  late : Shaped contactWord words l → 0 < length (rows .ranges) → HasFault rows l afterRange
+  of-contact : {f : Fault} → Shaped contactWord words l → RowFault mostContacts GoodContact contactSpan (rows .contacts) (contactOf l) f → HasFault rows l f
+  of-range : {f : Fault} → Shaped rangeWord words l → RowFault mostRanges GoodRange rangeSpan (rows .ranges) (rangeOf l) f → HasFault rows l f
 
 -- the line after the first k has that fault; the first k are the lines of rows, and it is held against these
 pub record FaultAt (ls : List Line) (k : ℕ) (f : Fault) : Type 0 where

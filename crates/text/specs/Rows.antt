@@ -1,5 +1,5 @@
 -- The lines of a plan text, as the request has them under 'Plan text': the header, contact lines, range lines.
---     Shaped                  the shape of a line: its word, five numbers, its line feed
+--     Shaped                  the shape of a line: its word, so many numbers, its line feed
 --     contactOf, rangeOf      the row that a line of good shape says
 --     render                  a plan's text
 -- Assumes nothing.
@@ -25,10 +25,10 @@ contactWord = 99 ∷ 111 ∷ 110 ∷ 116 ∷ 97 ∷ 99 ∷ 116 ∷ []
 unfoldable pub rangeWord : List ℕ
 rangeWord = 114 ∷ 97 ∷ 110 ∷ 103 ∷ 101 ∷ []
 
--- that word, five fields, each a number, and a line feed
-pub record Shaped (word : List ℕ) (l : Line) : Type 0 where
+-- that word, so many fields, each a number, and a line feed
+pub record Shaped (word : List ℕ) (count : ℕ) (l : Line) : Type 0 where
   pub word-is : l .word ≡ word
-  pub five : length (l .fields) ≡ 5
+  pub counted : length (l .fields) ≡ count
   pub numbers : Each Number (l .fields)
   pub ended : l .ended ≡ true
 

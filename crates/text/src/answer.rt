@@ -8,7 +8,7 @@ pub enum PlanRead {
 }
 
 // What `write` answers: how long the text is, or why nothing is written.
-pub enum PlanWritten {
+pub enum Written {
     Length(usize),
     Refused(Refusal),
 }

@@ -5,5 +5,5 @@ mod answer;
 mod said;
 
 pub use answer::PlanRead;
-pub use answer::PlanWritten;
+pub use answer::Written;
 pub use said::Said;

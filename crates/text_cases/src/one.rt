@@ -4,7 +4,7 @@ use libc::STDOUT_FILENO;
 use parse::read;
 use print::write;
 use text::PlanRead;
-use text::PlanWritten;
+use text::Written;
 use units::Refusal;
 
 // What the tables hold before the call.
@@ -47,14 +47,14 @@ fn refused(why: Refusal) {
 // The text written back into `out`: its length, where the bytes are the same.
 fn back_into(text: &[u8], contacts: &[u64], m: usize, ranges: &[u64], n: usize, out: &mut [u8]) {
     match write(contacts, m, ranges, n, out) {
-        PlanWritten::Length(k) => {
+        Written::Length(k) => {
             if k <= out.len() {
                 if check::same(&out[..k], text) {
                     field(k as u64);
                 }
             }
         }
-        PlanWritten::Refused(why) => refused(why),
+        Written::Refused(why) => refused(why),
     }
 }
 
@@ -76,13 +76,13 @@ pub fn counts(answer: PlanRead) {
 }
 
 // The length, or the refusal.
-pub fn length(answer: PlanWritten) {
+pub fn length(answer: Written) {
     match answer {
-        PlanWritten::Length(k) => {
+        Written::Length(k) => {
             io::write_all(STDOUT_FILENO, b"written");
             field(k as u64);
         }
-        PlanWritten::Refused(why) => refused(why),
+        Written::Refused(why) => refused(why),
     }
 }
 
