@@ -1,7 +1,6 @@
 -- Chains of contacts, held last contact first: `Arrives` says of a chain read from its last contact back what `Reaches` says of it read forward.
 --     reaches→arrives, arrives→reaches    the bridge between the two
 --     runs-contacts                       a chain that runs is made of contacts
---     runs-determined                     where a chain leads, and when, is determined by where and when it sets out
 -- Assumes nothing.
 use mathlib.Core.Path.{_≡_, refl}
 use mathlib.Core.List.{List, [], _∷_, reverse, reverseAux}
@@ -34,9 +33,3 @@ pub runs-contacts : {N : Network} {u t v r : ℕ} {cs : List ℕ} → Runs N u t
 runs-contacts stays i h = absurd (not-suc-le-zero h)
 runs-contacts (hops c from step run) zero h = c
 runs-contacts (hops c from step run) (suc i) h = runs-contacts run i (le-of-suc-le-suc h)
-
-pub runs-determined : {N : Network} {u t v₁ v₂ r₁ r₂ : ℕ} {cs : List ℕ} → Runs N u t cs v₁ r₁ → Runs N u t cs v₂ r₂ → (v₁ ≡ v₂) × (r₁ ≡ r₂)
-runs-determined stays stays = (refl, refl)
-runs-determined (hops {s = s₁} _ _ e₁ run₁) (hops {s = s₂} _ _ e₂ run₂) =
-    let p : s₁ ≡ s₂ = cc in
-    runs-determined (rw p at run₁) run₂

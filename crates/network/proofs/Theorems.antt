@@ -3,7 +3,6 @@
 --     never-unreached     where the delivery is never, no chain reaches node v
 --     best-unique         there is one best chain at the most
 --     best-short          the best chain has fewer contacts than there are nodes
---     runs-determined     where a chain leads, and when, is determined by where and when it sets out
 -- Of what the model computes:
 --     reached, optimal    an entry of layer k is the earliest time over at most k contacts
 --     length-layer        a layer has an entry for each node
@@ -26,7 +25,6 @@ use Rattle.network.proofs.Layers.{earliest-arrives, arrives-earliest}
 use Rattle.network.proofs.Loops.{cut-loops, direct-short, arrives-delivery}
 use Rattle.network.proofs.Fewest.{fewest-first}
 use Rattle.network.proofs.Chosen.{chosen-is-best}
-pub use Rattle.network.proofs.Chains.{runs-determined}
 pub use Rattle.network.proofs.Layers.{length-layer, settled}
 pub use Rattle.network.proofs.Fewest.{fewest-is}
 pub use Rattle.network.proofs.Chosen.{fewest-length}

@@ -30,7 +30,7 @@ use Rattle.taking.specs.Tables.{Gives}
 use Rattle.parse.specs.Tables as inside
 use Rattle.parse.specs.Tables.{Copied}
 use Rattle.text.proofs.Shapes.{same-tells}
-use Rattle.text.proofs.TableRows.{rows-agree}
+use Rattle.plan.proofs.RowList.{rows-agree}
 use Rattle.text.proofs.Theorems.{model-reads}
 
 -- ---- the first words of one table in another

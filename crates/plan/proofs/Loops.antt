@@ -1,8 +1,7 @@
 -- What a loop over the rows k, k + 1, .., n - 1 knows of `each`, `noTwo` and `lightOf`: at its start, at a row that passes, at one that fails, at its end.
 -- Assumes nothing.
-use mathlib.Core.Bool.{Bool, true, false, not, _&&_}
-use mathlib.Core.Path.{_≡_, refl, ap, _∙_}
-use mathlib.Core.List.{List, [], _∷_}
+use mathlib.Core.Bool.{Bool, true, false, not}
+use mathlib.Core.Path.{_≡_, sym, ap, _∙_}
 use Prim.Native.Nat.{ℕ, _+_, _-_, _≤_, _<_}
 use native.Mathlib.Nat.{sub-zero}
 use Rattle.plan.specs.declared.rows.Contact.{Contact}
@@ -17,35 +16,41 @@ use Rattle.plan.proofs.RowList.{rows-more, rows-done}
 pub rows-all : {A : Type 0} (row : ℕ → A) (n : ℕ) → rowsFrom row 0 n ≡ rowsFrom row 0 (n - 0)
 rows-all row n = rw sub-zero
 
-module _ {A : Type 0} (test : A → Bool) (row : ℕ → A) (k n : ℕ) where
-  pub each-goes : k < n → test (row k) ≡ true → each test (rowsFrom row k (n - k)) ≡ each test (rowsFrom row (k + 1) (n - (k + 1)))
+-- the rows from k on give what all rows give, and row k is x, of which b tells
+module _ {A : Type 0} (test : A → Bool) (row : ℕ → A) (k n : ℕ) (whole : Bool) (rest : whole ≡ each test (rowsFrom row k (n - k))) where
+  module _ (h : k < n) (x : A) (ex : x ≡ row k) (b : Bool) (eb : b ≡ test x) where
+    told : (v : Bool) → b ≡ v → test (row k) ≡ v
+    told v e = ap test (sym ex) ∙ sym eb ∙ e
+
+    pub each-goes : b ≡ true → whole ≡ each test (rowsFrom row (k + 1) (n - (k + 1)))
+    unfolding each
+    each-goes e = rw (rest, rows-more row k n h, told true e)
+
+    pub each-stops : b ≡ false → false ≡ whole
+    unfolding each
+    each-stops e = rw (rest, rows-more row k n h, told false e)
+
+  pub each-ends : n ≤ k → true ≡ whole
   unfolding each
-  each-goes h e = rw (rows-more row k n h, e)
+  each-ends h = rw (rest, rows-done row k n h)
 
-  pub each-stops : k < n → test (row k) ≡ false → each test (rowsFrom row k (n - k)) ≡ false
-  unfolding each
-  each-stops h e = rw (rows-more row k n h, e)
+-- the same, where b tells of x with each row after it
+module _ {A : Type 0} (test : A → A → Bool) (row : ℕ → A) (k n : ℕ) (whole : Bool) (rest : whole ≡ noTwo test (rowsFrom row k (n - k))) where
+  module _ (h : k < n) (x : A) (ex : x ≡ row k) (b : Bool) (eb : b ≡ each (λ y. not (test x y)) (rowsFrom row (k + 1) (n - (k + 1)))) where
+    clear : (v : Bool) → b ≡ v → each (λ y. not (test (row k) y)) (rowsFrom row (k + 1) (n - (k + 1))) ≡ v
+    clear v e = ap (λ (z : A). each (λ y. not (test z y)) (rowsFrom row (k + 1) (n - (k + 1)))) (sym ex) ∙ sym eb ∙ e
 
-  pub each-ends : n ≤ k → each test (rowsFrom row k (n - k)) ≡ true
-  unfolding each
-  each-ends h = rw (rows-done row k n h)
+    pub noTwo-goes : b ≡ true → whole ≡ noTwo test (rowsFrom row (k + 1) (n - (k + 1)))
+    unfolding noTwo
+    noTwo-goes e = rw (rest, rows-more row k n h, clear true e)
 
-module _ {A : Type 0} (test : A → A → Bool) (row : ℕ → A) (k n : ℕ) where
-  -- the test fails at row k with each row after it
-  abbrev Clear : Bool
-  Clear = each (λ y. not (test (row k) y)) (rowsFrom row (k + 1) (n - (k + 1)))
+    pub noTwo-stops : b ≡ false → false ≡ whole
+    unfolding noTwo
+    noTwo-stops e = rw (rest, rows-more row k n h, clear false e)
 
-  pub noTwo-goes : k < n → Clear ≡ true → noTwo test (rowsFrom row k (n - k)) ≡ noTwo test (rowsFrom row (k + 1) (n - (k + 1)))
+  pub noTwo-ends : n ≤ k → true ≡ whole
   unfolding noTwo
-  noTwo-goes h e = rw (rows-more row k n h, e)
-
-  pub noTwo-stops : k < n → Clear ≡ false → noTwo test (rowsFrom row k (n - k)) ≡ false
-  unfolding noTwo
-  noTwo-stops h e = rw (rows-more row k n h, e)
-
-  pub noTwo-ends : n ≤ k → noTwo test (rowsFrom row k (n - k)) ≡ true
-  unfolding noTwo
-  noTwo-ends h = rw (rows-done row k n h)
+  noTwo-ends h = rw (rest, rows-done row k n h)
 
 module _ (row : ℕ → Range) (c : Contact) (k n : ℕ) where
   pub light-goes : k < n → covers (row k) c ≡ false → lightOf (rowsFrom row k (n - k)) c ≡ lightOf (rowsFrom row (k + 1) (n - (k + 1))) c

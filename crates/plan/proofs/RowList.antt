@@ -1,10 +1,12 @@
 -- Laws of `rowsFrom`, the rows of a table as a list.
 --     rows-more, rows-done      one row more, and none left: what a loop over the rows uses
+--     rows-last                 one row more, at the end
 --     length-rows, getD-rows    how many there are, and which stands at a place
+--     rows-agree                rows that agree one by one are the same
 --     map-rows                  each row seen through a function
 -- Assumes nothing.
-use mathlib.Core.Path.{_≡_, refl, ap, sym, _∙_}
-use mathlib.Core.List.{List, [], _∷_, map}
+use mathlib.Core.Path.{_≡_, refl, ap, ap₂, sym, _∙_}
+use mathlib.Core.List.{List, [], _∷_, _++_, map}
 use Prim.Native.Nat.{ℕ, zero, suc, _+_, _-_, _≤_, _<_}
 use native.Mathlib.Nat.{add-zero, not-suc-le-zero, le-of-suc-le-suc}
 use native.Mathlib.Numerals.{add-one}
@@ -26,6 +28,13 @@ module _ {A : Type 0} (row : ℕ → A) where
       let e : n - k ≡ 0 = omega arith in
       ap (λ (m : ℕ). rowsFrom row k m) e
 
+  pub rows-last : (k n : ℕ) → rowsFrom row k (suc n) ≡ rowsFrom row k n ++ (row (k + n) ∷ [])
+  unfolding rowsFrom
+  rows-last k zero = ap (λ (i : ℕ). row i ∷ []) (sym (add-zero k))
+  rows-last k (suc n) =
+      let e : suc k + n ≡ k + suc n = omega arith in
+      ap (λ (rest : List A). row k ∷ rest) (rows-last (suc k) n ∙ ap (λ (i : ℕ). rowsFrom row (suc k) n ++ (row i ∷ [])) e)
+
   pub length-rows : (k n : ℕ) → length (rowsFrom row k n) ≡ n
   unfolding rowsFrom
   length-rows k zero = refl
@@ -38,6 +47,12 @@ module _ {A : Type 0} (row : ℕ → A) where
   getD-rows k (suc n) (suc i) blank h =
       let e : suc k + i ≡ k + suc i = omega arith in
       getD-rows (suc k) n i blank (le-of-suc-le-suc h) ∙ ap row e
+
+pub rows-agree : {A : Type 0} (row row′ : ℕ → A) (k n : ℕ) → ((i : ℕ) → i < k + n → row i ≡ row′ i) → rowsFrom row k n ≡ rowsFrom row′ k n
+unfolding rowsFrom
+rows-agree row row′ k zero same = refl
+rows-agree {A} row row′ k (suc n) same =
+    ap₂ (λ (x : A) (rest : List A). x ∷ rest) (same k (omega arith)) (rows-agree row row′ (suc k) n (λ i h. same i (omega arith)))
 
 pub map-rows : {A B : Type 0} (f : A → B) (row : ℕ → A) (k n : ℕ) → map f (rowsFrom row k n) ≡ rowsFrom (λ i. f (row i)) k n
 unfolding rowsFrom

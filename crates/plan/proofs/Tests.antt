@@ -1,24 +1,25 @@
 -- The tests that the code makes tell what the statements of specs/Plan.antt say.
 --     each-tells, noTwo-tells      a test of each element, and of each two
---     goodContact-tells, goodRange-tells, overlap-tells
+--     isNode-tells, goodContact-tells, goodRange-tells, overlap-tells
+--     overlap-either               either span may stand first
 --     valid-tells                  the test of a whole plan
 -- Assumes nothing.
-use mathlib.Core.Bool.{Bool, true, false, not, _&&_}
+use mathlib.Core.Bool.{Bool, not}
 use mathlib.Core.List.{List, [], _∷_, map}
 use mathlib.Core.Path.{_≡_, sym, subst}
-use Prim.Native.Nat.{ℕ, zero, suc, _≤_, _<_, suc-le-suc, zero-le}
+use Prim.Native.Nat.{ℕ, zero, suc, _<_, suc-le-suc, zero-le}
 use native.Mathlib.Nat.{not-suc-le-zero, le-of-suc-le-suc}
-use lib.Dec.{leb, ltb, eqb}
 use lib.ListN.{length, getD, length-map, List·getD-map}
 use Rattle.units.specs.declared.NodeNo.{NodeNo}
 use Rattle.units.specs.Limits.{IsNode, lastTime, mostRate, mostLight, mostNodes, mostContacts, mostRanges}
+use Rattle.units.specs.Model.{isNode}
 use Rattle.plan.specs.declared.rows.Contact.{Contact}
 use Rattle.plan.specs.declared.rows.Range.{Range}
 use Rattle.plan.specs.declared.rows.Span.{Span}
 use Rattle.plan.specs.Plan.{Plan, GoodContact, GoodRange, Overlap, Each, NoTwo, Valid, contactSpan, rangeSpan}
-use Rattle.plan.specs.Model.{isNode, goodContact, goodRange, overlap, each, noTwo, isValid}
+use Rattle.plan.specs.Model.{goodContact, goodRange, overlap, each, noTwo, isValid}
 use Rattle.plan.specs.Verdict.{Verdict, holds}
-use Rattle.plan.proofs.Verdicts.{tells-le, tells-lt, tells-eq, both, denied, restated}
+use Rattle.plan.proofs.Verdicts.{tells-le, tells-lt, tells-eq, both, denied, restated, answers-agree}
 
 module _ {A : Type 0} where
   each-cons : (P : A → Type 0) (x : A) (xs : List A) → P x → Each P xs → Each P (x ∷ xs)
@@ -67,7 +68,7 @@ module _ {A : Type 0} where
       restated (λ p. noTwo-cons R x xs (p .0) (p .1)) (λ qs. (noTwo-head R x xs qs, noTwo-tail R x xs qs))
       (both (each-tells (λ y. R x y → ⊥) (λ y. not (test x y)) (λ y. denied (tells x y)) xs) (noTwo-tells R test tells xs))
 
-isNode-tells : (n : NodeNo) → Verdict (IsNode n) (isNode n)
+pub isNode-tells : (n : NodeNo) → Verdict (IsNode n) (isNode n)
 isNode-tells n =
     restated (λ p. record { least = p .0; most = p .1 }) (λ g. (g .least, g .most)) (both (tells-le 1 (n .0)) (tells-le (n .0) mostNodes))
 
@@ -117,6 +118,12 @@ overlap-tells x y =
     (both
     (both (both (tells-eq (x .one .0) (y .one .0)) (tells-eq (x .other .0) (y .other .0))) (tells-lt (x .start .0) (y .end .0)))
     (tells-lt (y .start .0) (x .end .0)))
+
+pub overlap-either : (x y : Span) → overlap x y ≡ overlap y x
+overlap-either x y = answers-agree (overlap-tells x y) (restated (turned y x) (turned x y) (overlap-tells y x))
+  where
+    turned : (x y : Span) → Overlap x y → Overlap y x
+    turned x y o = record { one-same = sym (o .one-same); other-same = sym (o .other-same); x-before = o .y-before; y-before = o .x-before }
 
 pub valid-tells : (p : Plan) → Verdict (Valid p) (isValid p)
 unfolding isValid

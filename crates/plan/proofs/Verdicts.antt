@@ -3,6 +3,7 @@
 --     both, either, denied              joined tests
 --     restated                          the same verdict on a statement that is as good
 --     true-holds, false-fails, holds-true      from the answer to the statement, and back
+--     answers-agree                     two verdicts on one statement are the same
 -- Assumes nothing.
 use mathlib.Core.Bool.{Bool, true, false, not, _&&_, _||_}
 use mathlib.Core.Logic.{_⊎_, inl, inr, ⊎-elim}
@@ -58,3 +59,8 @@ false-fails (fails x) e y = x y
 pub holds-true : {A : Type 0} {b : Bool} → Verdict A b → A → b ≡ true
 holds-true (holds x) y = refl
 holds-true (fails x) y = absurd (x y)
+
+pub answers-agree : {A : Type 0} {a b : Bool} → Verdict A a → Verdict A b → a ≡ b
+answers-agree (holds x) v = sym (holds-true v x)
+answers-agree (fails x) (holds y) = absurd (x y)
+answers-agree (fails x) (fails y) = refl

@@ -1,19 +1,16 @@
 -- The tests that the code makes, as functions that compute. A reader of the promises may skip them: proofs/Tests.antt has the laws that join
 -- each to the statement of Plan.antt.
 -- Assumes nothing.
-use mathlib.Core.Bool.{Bool, true, false, not, _&&_}
+use mathlib.Core.Bool.{Bool, true, not, _&&_}
 use mathlib.Core.List.{List, [], _∷_, map}
 use lib.Dec.{leb, ltb, eqb}
 use lib.ListN.{length}
-use Rattle.units.specs.declared.NodeNo.{NodeNo}
-use Rattle.units.specs.Limits.{lastTime, mostRate, mostLight, mostNodes, mostContacts, mostRanges}
+use Rattle.units.specs.Limits.{lastTime, mostRate, mostLight, mostContacts, mostRanges}
+use Rattle.units.specs.Model.{isNode}
 use Rattle.plan.specs.declared.rows.Contact.{Contact}
 use Rattle.plan.specs.declared.rows.Range.{Range}
 use Rattle.plan.specs.declared.rows.Span.{Span}
 use Rattle.plan.specs.Plan.{Plan, contactSpan, rangeSpan}
-
-abbrev pub isNode : NodeNo → Bool
-isNode n = leb 1 (n .0) && leb (n .0) mostNodes
 
 abbrev pub goodContact : Contact → Bool
 goodContact c =

@@ -15,4 +15,7 @@ pub use rows::contact_numbered;
 pub use rows::contact_row;
 pub use rows::range_row;
 pub use rows::span_row;
+pub use valid::is_clear;
+pub use valid::is_good_contact;
+pub use valid::is_good_range;
 pub use valid::is_plan;

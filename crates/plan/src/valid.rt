@@ -1,4 +1,5 @@
-// Whether lent tables hold a valid plan. How it is found out, pair by pair, is in no promise.
+// Whether lent tables hold a valid plan, and the tests of its rows, which also serve where rows are
+// taken one by one. How a plan is found valid, pair by pair, is in no promise.
 use crate::rows::Contact;
 use crate::rows::Range;
 use crate::rows::Span;
@@ -9,26 +10,19 @@ use crate::rows::span_row;
 use units::LAST_TIME;
 use units::MOST_CONTACTS;
 use units::MOST_LIGHT;
-use units::MOST_NODES;
 use units::MOST_RANGES;
 use units::MOST_RATE;
-use units::NodeNo;
+use units::is_node;
 ghost use mathlib.Core.Bool.{not};
 ghost use mathlib.Core.Path.{_≡_};
-ghost use Prim.Native.Nat.{_+_, _-_, _*_, _≤_, _<_};
+ghost use Prim.Native.Nat.{_-_, _*_, _≤_};
 ghost use lib.ListN.{length};
-ghost use Rattle.plan.specs.Model.{isNode, goodContact, goodRange, overlap, each, noTwo};
+ghost use Rattle.plan.specs.Model.{goodContact, goodRange, overlap, each, noTwo};
 ghost use Rattle.plan.specs.Tables.{words, contactAt, rangeAt, spanAt, rowsFrom, IsPlan};
 ghost use Rattle.plan.specs.Verdict.{Verdict};
 
-fn is_node(n: NodeNo) -> bool
-    ensures { λ t. ⌜ t ≡ isNode n ⌝ }
-{
-    (1 <= n.0) & (n.0 <= MOST_NODES)
-}
-
 // Every value in its range, start below end, the two nodes different.
-fn is_good_contact(c: Contact) -> bool
+pub fn is_good_contact(c: Contact) -> bool
     ensures { λ t. ⌜ t ≡ goodContact c ⌝ }
 {
     let from = c.from;
@@ -43,7 +37,7 @@ fn is_good_contact(c: Contact) -> bool
 }
 
 // Every value in its range, start below end, the two nodes in order.
-fn is_good_range(r: Range) -> bool
+pub fn is_good_range(r: Range) -> bool
     ensures { λ t. ⌜ t ≡ goodRange r ⌝ }
 {
     let a = r.a;
@@ -93,13 +87,12 @@ fn are_good_ranges(ranges: &[u64], n: usize) -> bool
     true
 }
 
-// Whether row k overlaps none of the rows after it, up to n.
-fn is_clear(table: &[u64], k: usize, n: usize) -> bool
-    requires { ⌜ (k < n) × (n * words ≤ length (now table)) ⌝ }
-    ensures { λ t. ⌜ t ≡ each (λ y. not (overlap (spanAt (now (table .entry)) k) y)) (rowsFrom (spanAt (now (table .entry))) (k + 1) (n - (k + 1))) ⌝ }
+// Whether none of the rows from row k on, up to n, overlaps that one.
+pub fn is_clear(table: &[u64], k: usize, n: usize, one: Span) -> bool
+    requires { ⌜ n * words ≤ length (now table) ⌝ }
+    ensures { λ t. ⌜ t ≡ each (λ y. not (overlap one y)) (rowsFrom (spanAt (now (table .entry))) k (n - k)) ⌝ }
 {
-    let one = span_row(table, k);
-    let mut j = k + 1;
+    let mut j = k;
     while j < n {
         if is_overlap(one, span_row(table, j)) {
             return false;
@@ -116,10 +109,11 @@ fn are_apart(table: &[u64], n: usize) -> bool
 {
     let mut k = 0;
     while k < n {
-        if !is_clear(table, k, n) {
+        let one = span_row(table, k);
+        k += 1;
+        if !is_clear(table, k, n, one) {
             return false;
         }
-        k += 1;
     }
     true
 }

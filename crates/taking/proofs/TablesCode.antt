@@ -1,6 +1,6 @@
 -- Rows stored into tables.
---     copied-none, copied-more, copied-all      the first words of one table in another
---     contact-stored, range-stored              a stored row is that row, and the rows before it stay
+--     copied-more                       one word more of the first words of one table in another
+--     contact-stored, range-stored      a stored row is that row, and the rows before it stay
 -- Assumes nothing.
 use mathlib.Core.List.{List, [], _∷_, _++_}
 use mathlib.Core.Path.{_≡_, sym, ap, ap₂, _∙_}
@@ -12,8 +12,8 @@ use lib.Seq.{take-suc, drop-cons, set-at, append-snoc, getD-set-same, getD-set-o
 use Rattle.plan.specs.declared.rows.Contact.{Contact}
 use Rattle.plan.specs.declared.rows.Range.{Range}
 use Rattle.plan.specs.Tables.{words, contactAt, rangeAt, rowsFrom}
+use Rattle.plan.proofs.RowList.{rows-last, rows-agree}
 use Rattle.taking.specs.Tables.{withRow}
-use Rattle.text.proofs.TableRows.{more-rows, rows-agree}
 
 -- ---- copying
 
@@ -112,7 +112,7 @@ module _ (t : List ℕ) (k : ℕ) (room : k * words + words ≤ length t) where
 
     pub contact-stored : rowsFrom (contactAt contactIn) 0 (suc k) ≡ rowsFrom (contactAt t) 0 k ++ (x ∷ [])
     contact-stored =
-        more-rows (contactAt contactIn) 0 k
+        rows-last (contactAt contactIn) 0 k
         ∙ ap₂ (λ (front : List Contact) (last : Contact). front ++ (last ∷ []))
         (rows-agree (contactAt contactIn) (contactAt t) 0 k (λ j h. contact-before j (omega arith)))
         (ap (contactAt contactIn) (omega arith) ∙ contact-there)
@@ -143,7 +143,7 @@ module _ (t : List ℕ) (k : ℕ) (room : k * words + words ≤ length t) where
 
     pub range-stored : rowsFrom (rangeAt rangeIn) 0 (suc k) ≡ rowsFrom (rangeAt t) 0 k ++ (x ∷ [])
     range-stored =
-        more-rows (rangeAt rangeIn) 0 k
+        rows-last (rangeAt rangeIn) 0 k
         ∙ ap₂ (λ (front : List Range) (last : Range). front ++ (last ∷ []))
         (rows-agree (rangeAt rangeIn) (rangeAt t) 0 k (λ j h. range-before j (omega arith)))
         (ap (rangeAt rangeIn) (omega arith) ∙ range-there)

@@ -12,5 +12,4 @@ pub mod RowFaults
 pub mod Rows
 pub mod Shapes
 pub mod Short
-pub mod TableRows
 pub mod Theorems

@@ -63,7 +63,15 @@ pub const MOST_CHAIN: usize = 63;
 pub const MOST_TEXT: usize = 65_536;
 
 ghost use mathlib.Core.Path.{_≡_};
+ghost use Rattle.units.specs.Model.{isNode};
 ghost use Rattle.units.specs.Refusals.{numberOf, placeOf};
+
+// Whether it is the number of a node.
+pub fn is_node(n: NodeNo) -> bool
+    ensures { λ t. ⌜ t ≡ isNode n ⌝ }
+{
+    (1 <= n.0) & (n.0 <= MOST_NODES)
+}
 
 // The number of a refusal, as the request's table has it.
 pub fn number(why: Refusal) -> u64

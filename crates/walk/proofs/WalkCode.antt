@@ -5,34 +5,29 @@
 --     walk-never, walk-late, walk-carries      the answer, by when the chain delivers
 -- Assumes nothing.
 use mathlib.Core.List.{List}
-use mathlib.Core.Path.{_≡_, refl, sym, ap, _∙_}
+use mathlib.Core.Path.{_≡_, sym, ap, _∙_}
 use Prim.Native.Nat.{ℕ, _-_, _≤_, _<_, max}
 use borrow.Author.Tests.{lt-ltb, le-ltb}
-use lib.ListN.{length, getD}
-use Rattle.units.specs.Limits.{IsNode, lastTime, mostNodes, mostSize}
+use lib.ListN.{getD}
+use Rattle.units.specs.Limits.{lastTime, mostSize}
 use Rattle.units.specs.declared.Ask.{Ask}
 use Rattle.units.specs.declared.Millis.{Millis}
-use Rattle.units.specs.declared.NodeNo.{NodeNo}
 use Rattle.units.specs.declared.Refusal.the-variants.{NotAllowed, TooLate}
 use Rattle.plan.specs.declared.rows.Contact.{Contact}
-use Rattle.plan.specs.Plan.{Plan, Each}
+use Rattle.plan.specs.Plan.{Plan}
 use Rattle.plan.specs.Tables.{contactAt, planOf}
 use Rattle.plan.specs.Verdict.{Verdict}
+use Rattle.plan.proofs.Tests.{isNode-tells}
 use Rattle.plan.proofs.Verdicts.{tells-le, both, restated}
 use Rattle.timing.specs.declared.arrival.Arrival.the-variants.{Ready, Never}
 use Rattle.walk.specs.declared.figures.Figures.{Figures}
-use Rattle.walk.specs.declared.figures.Walked.{Walked}
 use Rattle.walk.specs.declared.figures.Walked.the-variants.{Carried, Refused}
 use Rattle.timing.specs.Chain.{InPlan, contactOf}
 use Rattle.timing.specs.Hop.{startOn}
-use Rattle.walk.specs.Model.{isNode, goodAsk, limitBefore, roomOf, figuresOf, walkModel}
+use Rattle.walk.specs.Model.{goodAsk, limitBefore, roomOf, figuresOf, walkModel}
 use Rattle.timing.specs.Model.{deliveryOf}
 use Rattle.walk.specs.Walk.{GoodAsk}
 use Rattle.timing.proofs.ChainCode.{contact-lent}
-
-isNode-tells : (n : NodeNo) → Verdict (IsNode n) (isNode n)
-isNode-tells n =
-    restated (λ p. record { least = p .0; most = p .1 }) (λ g. (g .least, g .most)) (both (tells-le 1 (n .0)) (tells-le (n .0) mostNodes))
 
 pub goodAsk-tells : (ask : Ask) → Verdict (GoodAsk ask) (goodAsk ask)
 goodAsk-tells ask =

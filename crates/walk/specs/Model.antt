@@ -9,8 +9,8 @@ use mathlib.Core.List.{List, [], _∷_}
 use Prim.Native.Nat.{ℕ, zero, suc, _+_, _-_, _^_}
 use lib.Dec.{leb, ltb}
 use lib.ListN.{getD}
-use Rattle.units.specs.Limits.{lastTime, mostNodes, mostSize}
-use Rattle.units.specs.declared.NodeNo.{NodeNo}
+use Rattle.units.specs.Limits.{lastTime, mostSize}
+use Rattle.units.specs.Model.{isNode}
 use Rattle.units.specs.declared.Ask.{Ask}
 use Rattle.units.specs.declared.Refusal.the-variants.{NotAllowed, TooLate}
 use Rattle.plan.specs.Light.{lightOf}
@@ -25,9 +25,6 @@ use Rattle.walk.specs.declared.figures.Walked.{Walked}
 use Rattle.walk.specs.declared.figures.Walked.the-variants.{Carried, Refused}
 
 -- every value of the ask in its range
-abbrev pub isNode : NodeNo → Bool
-isNode n = leb 1 (n .0) && leb (n .0) mostNodes
-
 abbrev pub goodAsk : Ask → Bool
 goodAsk ask =
     isNode (ask .source) && isNode (ask .destination) && leb (ask .time .0) lastTime && leb 1 (ask .size) && leb (ask .size) mostSize

@@ -11,27 +11,19 @@ use timing::later;
 use units::Ask;
 use units::ContactNo;
 use units::LAST_TIME;
-use units::MOST_NODES;
 use units::MOST_SIZE;
 use units::Millis;
-use units::NodeNo;
 use units::Refusal;
+use units::is_node;
 ghost use mathlib.Core.Path.{_≡_};
 ghost use Prim.Native.Nat.{_-_, _≤_, _<_};
 ghost use lib.ListN.{length, getD};
 ghost use Rattle.plan.specs.Plan.{Each};
 ghost use Rattle.plan.specs.Tables.{IsPlan, planOf};
-ghost use Rattle.plan.specs.Verdict.{Verdict};
 ghost use Rattle.timing.specs.Chain.{InPlan, contactOf};
 ghost use Rattle.timing.specs.Hop.{startOn};
-ghost use Rattle.walk.specs.Model.{isNode, goodAsk, limitBefore, figuresOf, walkModel};
+ghost use Rattle.walk.specs.Model.{goodAsk, limitBefore, figuresOf, walkModel};
 ghost use Rattle.walk.specs.Walk.{GoodAsk, Walks};
-
-fn is_node(n: NodeNo) -> bool
-    ensures { λ t. ⌜ t ≡ isNode n ⌝ }
-{
-    (1 <= n.0) & (n.0 <= MOST_NODES)
-}
 
 // Whether every value of the ask is in its range.
 pub fn is_good_ask(ask: Ask) -> bool

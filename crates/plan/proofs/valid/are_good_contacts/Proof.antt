@@ -1,7 +1,7 @@
 -- `plan::valid::are_good_contacts` meets its contract. The loop's invariant: the test of all rows is the test of those still to come.
 -- Assumes nothing.
-use mathlib.Core.Path.{_≡_, sym, ap, _∙_}
-use Prim.Native.Nat.{_-_, _≤_}
+use mathlib.Core.Path.{_≡_, ap}
+use Prim.Native.Nat.{_-_}
 use native.Mathlib.Omega.{arith}
 use borrow.Author.Needs.{needs}
 use borrow.Author.Tests.{not-true, not-false}
@@ -12,13 +12,13 @@ use Rattle.plan.proofs.valid.are_good_contacts.Statement.{statement}
 use Rattle.plan.proofs.valid.are_good_contacts.Tie as tie
 
 abbrev Inv-loop : tie.InvT-loop
-Inv-loop contacts n k₀ k = (k ≤ n) × (each goodContact (rowsFrom (contactAt contacts) 0 n) ≡ each goodContact (rowsFrom (contactAt contacts) k (n - k)))
+Inv-loop contacts n k₀ k = each goodContact (rowsFrom (contactAt contacts) 0 n) ≡ each goodContact (rowsFrom (contactAt contacts) k (n - k))
 
 abbrev μ-loop : tie.MeasureT-loop
 μ-loop contacts n k₀ k = n - k
 
 loop-holds : tie.Need-loop-holds Inv-loop μ-loop
-loop-holds c = (omega arith, ap (each goodContact) (rows-all _ _))
+loop-holds c = ap (each goodContact) (rows-all _ _)
 
 contact-row-requires : tie.Need-contact-row-requires Inv-loop μ-loop
 contact-row-requires c κs = omega arith
@@ -29,8 +29,8 @@ is-good-contact-requires c κs = search needs
 returns : tie.Need-returns Inv-loop μ-loop
 returns c =
     let at-test = c .before .before .before in
-    let fails = sym (ap goodContact (c .before .before .contact-row .ensures)) ∙ sym (c .before .is-good-contact .ensures) ∙ not-true _ (c .if1 .taken) in
-    sym (at-test .before .loop .inv .1 ∙ each-stops goodContact _ _ _ (at-test .loop-test .taken) fails)
+    each-stops goodContact _ _ _ _ (at-test .before .loop .inv) (at-test .loop-test .taken) _ (c .before .before .contact-row .ensures) _
+    (c .before .is-good-contact .ensures) (not-true _ (c .if1 .taken))
 
 add-k : tie.Need-add-k Inv-loop μ-loop
 add-k c = omega arith
@@ -41,11 +41,11 @@ loop-less c = omega arith
 loop-again : tie.Need-loop-again Inv-loop μ-loop
 loop-again c =
     let at-test = c .before .before .before in
-    let passes = sym (ap goodContact (c .before .before .contact-row .ensures)) ∙ sym (c .before .is-good-contact .ensures) ∙ not-false _ (c .if1 .left) in
-    (omega arith, at-test .before .loop .inv .1 ∙ each-goes goodContact _ _ _ (at-test .loop-test .taken) passes)
+    each-goes goodContact _ _ _ _ (at-test .before .loop .inv) (at-test .loop-test .taken) _ (c .before .before .contact-row .ensures) _
+    (c .before .is-good-contact .ensures) (not-false _ (c .if1 .left))
 
 returns-2 : tie.Need-returns-2 Inv-loop μ-loop
-returns-2 c = sym (c .before .loop .inv .1 ∙ each-ends goodContact _ _ _ (c .loop-test .left))
+returns-2 c = each-ends goodContact _ _ _ _ (c .before .loop .inv) (c .loop-test .left)
 
 pub are-good-contacts-spec : {M : Type 1} → statement M
 are-good-contacts-spec =

@@ -6,8 +6,9 @@ use native.Mathlib.Omega.{arith}
 use borrow.Author.Tests.{not-true, not-false}
 use lib.ListN.{length}
 use Rattle.units.specs.Limits.{mostContacts, mostRanges}
+use Rattle.text.specs.Reading.{refusalOf, tooMany, badValue, overlapping}
 use Rattle.taking.specs.Tables.{rows, refused}
-use Rattle.taking.proofs.JudgeCode.{contact-late, contact-full, contact-bad, contact-meets, contact-taken}
+use Rattle.taking.proofs.JudgeCode.{row-full, row-bad, row-meets, row-fits, contact-late, contact-refused, contact-taken}
 use Rattle.taking.proofs.judge.take_contact.Statement.{statement}
 use Rattle.taking.proofs.judge.take_contact.Tie as tie
 
@@ -15,18 +16,18 @@ returns : tie.Need-returns
 returns c = λ ranges. refused _ (contact-late _ _ ranges _ _ _ (c .if1 .taken))
 
 returns-2 : tie.Need-returns-2
-unfolding mostContacts
-returns-2 c = λ ranges. refused _ (contact-full _ _ ranges _ _ _ (c .before .if1 .left) (c .if2 .taken))
+unfolding mostContacts refusalOf
+returns-2 c = λ ranges. refused _ (contact-refused _ _ ranges _ _ _ (c .before .if1 .left) tooMany (row-full _ _ _ _ _ _ (c .if2 .taken)))
 
 is-good-contact-requires : tie.Need-is-good-contact-requires
 is-good-contact-requires c κs = tt
 
 returns-3 : tie.Need-returns-3
-unfolding mostContacts
+unfolding mostContacts refusalOf
 returns-3 c =
-    let at-if1 = c .before .before .before in
-    λ ranges. refused _ (contact-bad _ _ ranges _ _ _ (at-if1 .if1 .left) (c .before .before .if2 .left) _ (c .before .is-good-contact .ensures)
-    (not-true _ (c .if3 .taken)))
+    let at-if2 = c .before .before in
+    λ ranges. refused _ (contact-refused _ _ ranges _ _ _ (at-if2 .before .if1 .left) badValue
+    (row-bad _ _ _ _ _ _ (at-if2 .if2 .left) _ (c .before .is-good-contact .ensures) (not-true _ (c .if3 .taken))))
 
 contact-span-requires : tie.Need-contact-span-requires
 contact-span-requires c κs = tt
@@ -39,14 +40,13 @@ same-length : tie.Need-same-length
 same-length c = refl
 
 returns-4 : tie.Need-returns-4
-unfolding mostContacts
+unfolding mostContacts refusalOf
 returns-4 c =
     let at-if3 = c .before .before .before .before in
-    let at-is-good-contact = at-if3 .before in
-    let at-if2 = at-is-good-contact .before in
-    let at-if1 = at-if2 .before in
-    λ ranges. refused _ (contact-meets _ _ ranges _ _ _ (at-if1 .if1 .left) (at-if2 .if2 .left) _ (at-is-good-contact .is-good-contact .ensures)
-    (not-false _ (at-if3 .if3 .left)) _ (c .before .before .contact-span .ensures) _ (c .before .is-clear .ensures) (not-true _ (c .if4 .taken)))
+    let at-if2 = at-if3 .before .before in
+    λ ranges. refused _ (contact-refused _ _ ranges _ _ _ (at-if2 .before .if1 .left) overlapping
+    (row-meets _ _ _ _ _ _ (at-if2 .if2 .left) _ (at-if3 .before .is-good-contact .ensures) (not-false _ (at-if3 .if3 .left)) _
+    (c .before .before .contact-span .ensures) _ (c .before .is-clear .ensures) (not-true _ (c .if4 .taken))))
 
 put-contact-requires : tie.Need-put-contact-requires
 unfolding mostContacts
@@ -66,19 +66,16 @@ returns-5 : tie.Need-returns-5
 unfolding mostContacts mostRanges
 returns-5 c =
     let at-if4 = c .before .before .before .before in
-    let at-is-clear = at-if4 .before in
-    let at-contact-span = at-is-clear .before in
-    let at-if3 = at-contact-span .before .before in
-    let at-is-good-contact = at-if3 .before in
-    let at-if2 = at-is-good-contact .before in
-    let at-if1 = at-if2 .before in
-    let start = at-if1 .before .before in
+    let at-if3 = at-if4 .before .before .before .before in
+    let at-if2 = at-if3 .before .before in
+    let start = at-if2 .before .before .before in
     let more : start .args .m + 1 ≤ 512 = omega (arith, at-if2 .if2 .left) in
     let room : start .args .m * 5 + 5 ≤ length (start .args .contacts .now) = omega (arith, start .pre .2, at-if2 .if2 .left) in
     λ ranges. rows _ _ more (start .pre .1)
-    (contact-taken _ _ ranges _ _ _ (at-if1 .if1 .left) (at-if2 .if2 .left) _ (at-is-good-contact .is-good-contact .ensures)
-    (not-false _ (at-if3 .if3 .left)) _ (at-contact-span .contact-span .ensures) _ (at-is-clear .is-clear .ensures) room
-    (not-false _ (at-if4 .if4 .left)) _ (c .before .before .put-contact .ensures))
+    (contact-taken _ _ ranges _ _ _ (at-if2 .before .if1 .left)
+    (row-fits _ _ _ _ _ _ (at-if2 .if2 .left) _ (at-if3 .before .is-good-contact .ensures) (not-false _ (at-if3 .if3 .left)) _
+    (at-if4 .before .before .contact-span .ensures) _ (at-if4 .before .is-clear .ensures) (not-false _ (at-if4 .if4 .left)))
+    room _ (c .before .before .put-contact .ensures))
 
 pub take-contact-spec : {M : Type 1} → statement M
 take-contact-spec =
