@@ -2,10 +2,11 @@
 --     number-blank, number-by                         whether bytes are a number, by the tests in their order
 --     field-end, field-none, field-number, field-bad  the field behind a tab
 --     fields-more, fields-none                        the fields of a line from a place on: one more, and none left
---     numbers-goes, numbers-stops, numbers-ends       the loop over the five fields
+--     numbers-goes, numbers-stops, numbers-ends       the loop over the fields
+--     fields-are, shape-is                            a line's fields and its shape, by where its word ends
 --     said-bad, said-contact, said-range, said-other  what a line says
 -- Assumes nothing.
-use mathlib.Core.Bool.{Bool, true, false, not, _&&_, _||_}
+use mathlib.Core.Bool.{Bool, true, false, not, _&&_, _||_, and-true, and-false}
 use mathlib.Core.List.{List, [], _∷_, _++_, map, append-assoc, append-nil}
 use mathlib.Core.Path.{_≡_, refl, sym, ap, ap₂, _∙_}
 use Prim.Native.Nat.{ℕ, zero, suc, _+_, _-_, _≤_, _<_}
@@ -29,7 +30,7 @@ use Rattle.text.specs.Lines.{tab, Line}
 use Rattle.text.specs.Model.{upTo, lineIn, same, isDigit, isNumber, isShaped, saidBy, capped, cappedContact, cappedRange, cappedSaid}
 use Rattle.lines.specs.Model.{cappedValue, fieldsFrom, goodFields, fieldBytes, fieldAt}
 use Rattle.text.specs.Rows.{contactWord, rangeWord, contactOf, rangeOf}
-use Rattle.text.proofs.Cuts.{upTo-le, line-cut, line-left}
+use Rattle.text.proofs.Cuts.{upTo-le, lineIn-ended, line-cut, line-left}
 
 -- ---- a number
 
@@ -142,11 +143,7 @@ field-tells line at v next = go (decLt at (length line)) (isNumber (fieldBytes l
         let z : _≡_ {A = ℕ} 0 1 = cc in
         absurd (omega arith)
 
--- ---- five numbers
-
-and-false : (a : Bool) → a && false ≡ false
-and-false true = refl
-and-false false = refl
+-- ---- so many numbers
 
 same-answer : {A B : Type 0} {a b : Bool} → (A → B) → (B → A) → Verdict A a → Verdict B b → a ≡ b
 same-answer to from (holds x) (holds y) = refl
@@ -157,24 +154,20 @@ same-answer to from (fails x) (fails y) = refl
 eqb-suc : (m n : ℕ) → 0 < n → eqb (suc m) n ≡ eqb m (n - 1)
 eqb-suc m n h = same-answer (λ e. omega arith) (λ e. omega arith) (tells-eq (suc m) n) (tells-eq m (n - 1))
 
-good-more : (k : ℕ) (f : List ℕ) (fs : List (List ℕ)) → k < 5 → isNumber f ≡ true → goodFields (5 - k) (f ∷ fs) ≡ goodFields (5 - (k + 1)) fs
+good-more : (count k : ℕ) (f : List ℕ) (fs : List (List ℕ)) → k < count → isNumber f ≡ true
+    → goodFields (count - k) (f ∷ fs) ≡ goodFields (count - (k + 1)) fs
 unfolding goodFields each
-good-more k f fs h e =
-    let n : (5 - k) - 1 ≡ 5 - (k + 1) = omega arith in
-    rw e (ap (λ (b : Bool). b && each isNumber fs) (eqb-suc (length fs) (5 - k) (omega arith) ∙ ap (eqb (length fs)) n))
+good-more count k f fs h e =
+    let n : (count - k) - 1 ≡ count - (k + 1) = omega arith in
+    rw e (ap (λ (b : Bool). b && each isNumber fs) (eqb-suc (length fs) (count - k) (omega arith) ∙ ap (eqb (length fs)) n))
 
-module _ (line : List ℕ) (at k : ℕ) where
-  pub numbers-goes : (v next : ℕ) → k < 5 → fieldAt line at ≡ Number v next
-      → goodFields (5 - k) (fieldsFrom line at) ≡ goodFields (5 - (k + 1)) (fieldsFrom line next)
-  numbers-goes v next h e =
-      let t = field-tells line at v next e in
-      ap (goodFields (5 - k)) (fields-more line at (t .inside))
-      ∙ good-more k (fieldBytes line at) (fieldsFrom line (End line at)) h (t .good)
-      ∙ ap (λ (p : ℕ). goodFields (5 - (k + 1)) (fieldsFrom line p)) (sym (t .its-end))
+module _ (line : List ℕ) (at : ℕ) where
+  pub next-inside : (v next : ℕ) → fieldAt line at ≡ Number v next → next ≤ length line
+  next-inside v next e = let t = field-tells line at v next e in field-end line at (t .inside) next (t .its-end)
 
-  pub numbers-stored : (v next : ℕ) (row : List ℕ) → k < length row → fieldAt line at ≡ Number v next
+  pub numbers-stored : (k v next : ℕ) (row : List ℕ) → k < length row → fieldAt line at ≡ Number v next
       → take k row ++ map cappedValue (fieldsFrom line at) ≡ take (k + 1) (set row k v) ++ map cappedValue (fieldsFrom line next)
-  numbers-stored v next row h e =
+  numbers-stored k v next row h e =
       let t = field-tells line at v next e in
       let others : List ℕ = map cappedValue (fieldsFrom line next) in
       let step : map cappedValue (fieldsFrom line at) ≡ v ∷ others =
@@ -186,36 +179,42 @@ module _ (line : List ℕ) (at k : ℕ) where
       ∙ sym (append-assoc (take k row) (v ∷ []) others)
       ∙ ap (λ (l : List ℕ). l ++ others) (sym front)
 
-  pub next-inside : (v next : ℕ) → fieldAt line at ≡ Number v next → next ≤ length line
-  next-inside v next e = let t = field-tells line at v next e in field-end line at (t .inside) next (t .its-end)
+  pub numbers-all : (k : ℕ) (row all : List ℕ) → length row ≤ k → all ≡ take k row ++ map cappedValue (fieldsFrom line at) → length line ≤ at → row ≡ all
+  numbers-all k row all h e end =
+      sym (e ∙ ap (λ (fs : List (List ℕ)). take k row ++ map cappedValue fs) (fields-none line at end) ∙ append-nil (take k row) ∙ take-all k row h)
 
-  pub numbers-stops : k < 5 → fieldAt line at ≡ Bad → goodFields (5 - k) (fieldsFrom line at) ≡ false
-  unfolding fieldAt goodFields each
-  numbers-stops h = go (decLt at (length line)) (isNumber (fieldBytes line at)) refl
-    where
-      go : Dec (at < length line) → (b : Bool) → isNumber (fieldBytes line at) ≡ b → fieldAt line at ≡ Bad → goodFields (5 - k) (fieldsFrom line at) ≡ false
-      go (yes g) true e f =
-          let same : Number (cappedValue (fieldBytes line at)) (End line at) ≡ Bad = rw (lt-ltb at (length line) g, e) at f in
-          let z : _≡_ {A = ℕ} 0 1 = cc in
-          absurd (omega arith)
-      go (yes g) false e f = rw (fields-more line at g, e) (and-false (eqb (suc (length (fieldsFrom line (End line at)))) (5 - k)))
-      go (no g) b e f = rw (fields-none line at (omega arith), ne-eqb 0 (5 - k) (omega arith))
+  module _ (count k : ℕ) where
+    pub numbers-goes : (v next : ℕ) → k < count → fieldAt line at ≡ Number v next
+        → goodFields (count - k) (fieldsFrom line at) ≡ goodFields (count - (k + 1)) (fieldsFrom line next)
+    numbers-goes v next h e =
+        let t = field-tells line at v next e in
+        ap (goodFields (count - k)) (fields-more line at (t .inside))
+        ∙ good-more count k (fieldBytes line at) (fieldsFrom line (End line at)) h (t .good)
+        ∙ ap (λ (p : ℕ). goodFields (count - (k + 1)) (fieldsFrom line p)) (sym (t .its-end))
 
-  pub numbers-ends : at ≤ length line → k ≤ 5 → 5 ≤ k → eqb at (length line) ≡ goodFields (5 - k) (fieldsFrom line at)
-  unfolding goodFields each
-  numbers-ends l h g = go (decLt at (length line))
-    where
-      none : 5 - k ≡ 0
-      none = omega arith
+    pub numbers-stops : k < count → fieldAt line at ≡ Bad → goodFields (count - k) (fieldsFrom line at) ≡ false
+    unfolding fieldAt goodFields each
+    numbers-stops h = go (decLt at (length line)) (isNumber (fieldBytes line at)) refl
+      where
+        go : Dec (at < length line) → (b : Bool) → isNumber (fieldBytes line at) ≡ b → fieldAt line at ≡ Bad
+            → goodFields (count - k) (fieldsFrom line at) ≡ false
+        go (yes g) true e f =
+            let same : Number (cappedValue (fieldBytes line at)) (End line at) ≡ Bad = rw (lt-ltb at (length line) g, e) at f in
+            let z : _≡_ {A = ℕ} 0 1 = cc in
+            absurd (omega arith)
+        go (yes g) false e f = rw (fields-more line at g, e) (and-false (eqb (suc (length (fieldsFrom line (End line at)))) (count - k)))
+        go (no g) b e f = rw (fields-none line at (omega arith), ne-eqb 0 (count - k) (omega arith))
 
-      go : Dec (at < length line) → eqb at (length line) ≡ goodFields (5 - k) (fieldsFrom line at)
-      go (yes i) = rw (ne-eqb at (length line) (omega arith), fields-more line at i, none, ne-eqb (suc (length (fieldsFrom line (End line at)))) 0 (omega arith))
-      go (no i) = rw (eq-eqb at (length line) (omega arith), fields-none line at (omega arith), none)
+    pub numbers-ends : at ≤ length line → count ≤ k → eqb at (length line) ≡ goodFields (count - k) (fieldsFrom line at)
+    unfolding goodFields each
+    numbers-ends l h = go (decLt at (length line))
+      where
+        none : count - k ≡ 0
+        none = omega arith
 
-  pub numbers-all : (row all : List ℕ) → length row ≡ 5 → k ≤ 5 → 5 ≤ k → all ≡ take k row ++ map cappedValue (fieldsFrom line at)
-      → length line ≤ at → row ≡ all
-  numbers-all row all l h g e end =
-      sym (e ∙ ap (λ (fs : List (List ℕ)). take k row ++ map cappedValue fs) (fields-none line at end) ∙ append-nil (take k row) ∙ take-all k row (omega arith))
+        go : Dec (at < length line) → eqb at (length line) ≡ goodFields (count - k) (fieldsFrom line at)
+        go (yes i) = rw (ne-eqb at (length line) (omega arith), fields-more line at i, none, ne-eqb (suc (length (fieldsFrom line (End line at)))) 0 (omega arith))
+        go (no i) = rw (eq-eqb at (length line) (omega arith), fields-none line at (omega arith), none)
 
 -- ---- what a line says
 
@@ -230,7 +229,7 @@ word-of line = go (decLt (upTo tab line) (length line))
         rw (le-ltb (upTo tab line) (length line) (omega arith))
         (line-left line true all ∙ ap (λ (w : List ℕ). record { word = w; fields = []; ended = true }) (sym (take-all (upTo tab line) line (omega arith))))
 
-capped-word : (fs : List (List ℕ)) (k : ℕ) → capped (getD (map value fs) k 0) ≡ getD (map cappedValue fs) k 0
+pub capped-word : (fs : List (List ℕ)) (k : ℕ) → capped (getD (map value fs) k 0) ≡ getD (map cappedValue fs) k 0
 unfolding capped
 capped-word [] k = refl
 capped-word (f ∷ fs) zero = refl
@@ -255,22 +254,32 @@ module _ (line : List ℕ) (end : ℕ) (ends : end ≡ 0 + upTo tab (drop 0 line
   regroup true false n = refl
   regroup false e n = refl
 
-  shaped : (w : List ℕ) → isShaped w words (lineIn line true) ≡ same word w && goodFields 5 fields
+  shaped : (w : List ℕ) (count : ℕ) → isShaped w count (lineIn line true) ≡ same word w && goodFields count fields
   unfolding isShaped goodFields
-  shaped w = rw whole (regroup (same word w) (eqb (length fields) 5) (each isNumber fields))
+  shaped w count = rw whole (regroup (same word w) (eqb (length fields) count) (each isNumber fields))
 
-  pub said-bad : (b : Bool) → b ≡ goodFields 5 (fieldsFrom line end) → b ≡ false → Nothing ≡ cappedSaid (saidBy (lineIn line true))
+  pub fields-are : lineIn line true .fields ≡ fieldsFrom line end
+  unfolding fields word
+  fields-are = ap (λ (l : Line). l .fields) whole
+
+  pub shape-is : (w : List ℕ) (count : ℕ) (ended : Bool)
+      → isShaped w count (lineIn line ended) ≡ same (take end line) w && goodFields count (fieldsFrom line end) && ended
+  unfolding isShaped fields word
+  shape-is w count true = shaped w count ∙ sym (and-true (same (take end line) w && goodFields count (fieldsFrom line end)))
+  shape-is w count false = simp (lineIn-ended, and-false)
+
+  pub said-bad : (b : Bool) → b ≡ goodFields words (fieldsFrom line end) → b ≡ false → Nothing ≡ cappedSaid (saidBy (lineIn line true))
   unfolding saidBy cappedSaid fields
   said-bad b eb e =
-      let bad : goodFields 5 fields ≡ false = sym eb ∙ e in
-      rw (shaped contactWord, shaped rangeWord, bad, and-false (same word contactWord), and-false (same word rangeWord))
+      let bad : goodFields words fields ≡ false = sym eb ∙ e in
+      rw (shaped contactWord words, shaped rangeWord words, bad, and-false (same word contactWord), and-false (same word rangeWord))
 
-  module _ (b : Bool) (eb : b ≡ goodFields 5 (fieldsFrom line end)) (good : b ≡ true) where
+  module _ (b : Bool) (eb : b ≡ goodFields words (fieldsFrom line end)) (good : b ≡ true) where
     pub said-contact : (row : List ℕ) (c : Contact) → same (take end line) contactWord ≡ true → row ≡ map cappedValue (fieldsFrom line end) → c ≡ contactAt row 0
         → AContact c ≡ cappedSaid (saidBy (lineIn line true))
     unfolding saidBy cappedSaid cappedContact contactOf fields word
     said-contact row c s er ec =
-        let is : isShaped contactWord words (lineIn line true) ≡ true = shaped contactWord ∙ ap₂ (λ (x y : Bool). x && y) s (sym eb ∙ good) in
+        let is : isShaped contactWord words (lineIn line true) ≡ true = shaped contactWord words ∙ ap₂ (λ (x y : Bool). x && y) s (sym eb ∙ good) in
         let its : contactAt (map cappedValue fields) 0 ≡ cappedContact (contactAt (map value fields) 0) = λ i. record {
           start = record { 0 = sym (capped-word fields 0) i };
           end = record { 0 = sym (capped-word fields 1) i };
@@ -284,8 +293,8 @@ module _ (line : List ℕ) (end : ℕ) (ends : end ≡ 0 + upTo tab (drop 0 line
         → row ≡ map cappedValue (fieldsFrom line end) → r ≡ rangeAt row 0 → ARange r ≡ cappedSaid (saidBy (lineIn line true))
     unfolding saidBy cappedSaid cappedRange rangeOf fields word
     said-range row r n s er ec =
-        let not-contact : isShaped contactWord words (lineIn line true) ≡ false = shaped contactWord ∙ ap (λ (x : Bool). x && goodFields 5 fields) n in
-        let is : isShaped rangeWord words (lineIn line true) ≡ true = shaped rangeWord ∙ ap₂ (λ (x y : Bool). x && y) s (sym eb ∙ good) in
+        let not-contact : isShaped contactWord words (lineIn line true) ≡ false = shaped contactWord words ∙ ap (λ (x : Bool). x && goodFields words fields) n in
+        let is : isShaped rangeWord words (lineIn line true) ≡ true = shaped rangeWord words ∙ ap₂ (λ (x y : Bool). x && y) s (sym eb ∙ good) in
         let its : rangeAt (map cappedValue fields) 0 ≡ cappedRange (rangeAt (map value fields) 0) = λ i. record {
           start = record { 0 = sym (capped-word fields 0) i };
           end = record { 0 = sym (capped-word fields 1) i };
@@ -298,8 +307,8 @@ module _ (line : List ℕ) (end : ℕ) (ends : end ≡ 0 + upTo tab (drop 0 line
     pub said-other : same (take end line) contactWord ≡ false → same (take end line) rangeWord ≡ false → Nothing ≡ cappedSaid (saidBy (lineIn line true))
     unfolding saidBy cappedSaid fields word
     said-other n m =
-        let not-contact : isShaped contactWord words (lineIn line true) ≡ false = shaped contactWord ∙ ap (λ (x : Bool). x && goodFields 5 fields) n in
-        let not-range : isShaped rangeWord words (lineIn line true) ≡ false = shaped rangeWord ∙ ap (λ (x : Bool). x && goodFields 5 fields) m in
+        let not-contact : isShaped contactWord words (lineIn line true) ≡ false = shaped contactWord words ∙ ap (λ (x : Bool). x && goodFields words fields) n in
+        let not-range : isShaped rangeWord words (lineIn line true) ≡ false = shaped rangeWord words ∙ ap (λ (x : Bool). x && goodFields words fields) m in
         rw (not-contact, not-range)
 
 pub word-end : (line : List ℕ) (end : ℕ) → end ≡ 0 + upTo tab (drop 0 line) → end ≤ length line

@@ -1,4 +1,4 @@
-// A line: its word and its five numbers.
+// A line: its word and its numbers.
 use crate::marks::find;
 use crate::marks::is_same;
 use crate::number::is_number;
@@ -40,14 +40,15 @@ fn field_at(line: &[u8], at: usize) -> Field
     }
 }
 
-// Whether five numbers and no more stand behind the tab at `from`. They are then the row's words.
-fn numbers(line: &[u8], from: usize, row: &mut [u64]) -> bool
-    requires { ⌜ (length (now row) ≡ 5) × (from ≤ length (now line)) ⌝ }
-    ensures { λ t. ⌜ (t ≡ goodFields 5 (fieldsFrom (now (line .entry)) from)) × (t ≡ true → now (row .exit) ≡ map cappedValue (fieldsFrom (now (line .entry)) from)) ⌝ }
+// Whether as many numbers as the row has words, and no more, stand behind the tab at `from`. They are
+// then the row's words.
+pub fn numbers(line: &[u8], from: usize, row: &mut [u64]) -> bool
+    requires { ⌜ from ≤ length (now line) ⌝ }
+    ensures { λ t. ⌜ (t ≡ goodFields (length (now (row .entry))) (fieldsFrom (now (line .entry)) from)) × (t ≡ true → now (row .exit) ≡ map cappedValue (fieldsFrom (now (line .entry)) from)) ⌝ }
 {
     let mut at = from;
     let mut k = 0;
-    while k < 5 {
+    while k < row.len() {
         match field_at(line, at) {
             Field::Number(v, next) => {
                 row[k] = v;

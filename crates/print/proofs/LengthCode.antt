@@ -17,7 +17,7 @@ use Rattle.text.specs.Lines.{glue}
 use Rattle.text.specs.Rows.{header, contactWord, rangeWord, lineOf, contactLine, rangeLine, planLines, render}
 use Rattle.text.proofs.Digits.{decimal-large, decimal-small, decimal-number, decimal-short}
 use Rattle.text.proofs.Lines.{glue-append}
-use Rattle.text.proofs.TableRows.{rows-agree}
+use Rattle.plan.proofs.RowList.{rows-agree}
 use Rattle.print.specs.Model.{wordsFrom, fieldBytes, lineAt, lineBytes, rowBytes}
 use Rattle.print.proofs.PutCode.{fields-more, fields-done, line-parts, rows-left, rows-none}
 
@@ -110,8 +110,8 @@ module _ (contacts : List ℕ) (m : ℕ) (ranges : List ℕ) (n : ℕ) where
         length-append (rowBytes contactWord contacts 0 m) (rowBytes rangeWord ranges 0 n),
       )
 
-pub fields-all : (t : List ℕ) (from end : ℕ) → end ≡ from + words → length (fieldBytes t from words) ≡ 0 + length (fieldBytes t from (end - from))
-fields-all t from end e = let n : words ≡ end - from = omega arith in ap (λ (k : ℕ). length (fieldBytes t from k)) n ∙ omega arith
+pub fields-all : (t : List ℕ) (from count end : ℕ) → end ≡ from + count → length (fieldBytes t from count) ≡ 0 + length (fieldBytes t from (end - from))
+fields-all t from count end e = let n : count ≡ end - from = omega arith in ap (λ (k : ℕ). length (fieldBytes t from k)) n ∙ omega arith
 
 pub rows-every : (word t : List ℕ) (n : ℕ) → length (rowBytes word t 0 n) ≡ 0 + length (rowBytes word t 0 (n - 0))
 rows-every word t n = rw (sub-zero n) (omega arith)

@@ -2,11 +2,13 @@
 --     Onward                                the rest of the bytes, written behind, completes them all
 --     onward-start, onward-room, onward-step, onward-end
 --     wrote-byte, wrote-none                one byte, and none
+--     wrote-front                           what stands there, written at the front
 --     fields-more, fields-done, rows-more-bytes, rows-done-bytes      one field or line more, and none left
 -- Assumes nothing.
 use mathlib.Core.List.{List, [], _∷_, _++_, append-assoc}
 use mathlib.Core.Path.{_≡_, refl, sym, ap, ap₂, _∙_, subst}
 use Prim.Native.Nat.{ℕ, _+_, _-_, _*_, _/_, _%_, _≤_, _<_}
+use native.Mathlib.Nat.{zero-add}
 use native.Mathlib.Numerals.{add-one}
 use native.Mathlib.Omega.{arith}
 use lib.ListN.{length, getD, take, drop, set, length-append, length-set, length-take, take-append-drop, drop-of-length-le}
@@ -61,6 +63,10 @@ wrote-none out at =
 
 pub wrote-byte : (out : List ℕ) (at b : ℕ) → at < length out → Wrote out at (b ∷ []) (set out at b) (at + 1)
 wrote-byte out at b h = record { next-is = refl; bytes-are = set-split out at b h ∙ ap (λ (n : ℕ). take at out ++ b ∷ drop n out) (sym (add-one at)) }
+
+-- at the front
+pub wrote-front : {out bytes last : List ℕ} {q : ℕ} → Wrote out 0 bytes last q → last ≡ bytes ++ drop (length bytes) out
+wrote-front {out} {bytes} w = w .bytes-are ∙ ap (λ (n : ℕ). bytes ++ drop n out) (zero-add (length bytes))
 
 -- ---- a run of pieces
 
@@ -184,11 +190,11 @@ module _ (before : List ℕ) (at : ℕ) (all t out : List ℕ) (p i end : ℕ) w
   pub fields-end : end ≤ i → Onward before at all out p (fieldBytes t i (end - i)) → Wrote before at all out p
   fields-end h o = onward-end (onward-as (fieldBytes t i (end - i)) [] (fields-done t i end h) o)
 
-pub fields-start : (out : List ℕ) (at : ℕ) (t : List ℕ) (from end : ℕ) → end ≡ from + words → at + length (fieldBytes t from words) ≤ length out
-    → Onward out at (fieldBytes t from words) out at (fieldBytes t from (end - from))
-fields-start out at t from end e room =
-    let n : words ≡ end - from = omega arith in
-    subst (λ (k : ℕ). Onward out at (fieldBytes t from words) out at (fieldBytes t from k)) n (onward-start out at (fieldBytes t from words) room)
+pub fields-start : (out : List ℕ) (at : ℕ) (t : List ℕ) (from count end : ℕ) → end ≡ from + count → at + length (fieldBytes t from count) ≤ length out
+    → Onward out at (fieldBytes t from count) out at (fieldBytes t from (end - from))
+fields-start out at t from count end e room =
+    let n : count ≡ end - from = omega arith in
+    subst (λ (k : ℕ). Onward out at (fieldBytes t from count) out at (fieldBytes t from k)) n (onward-start out at (fieldBytes t from count) room)
 
 module _ (before : List ℕ) (at : ℕ) (all word t out : List ℕ) (p k n : ℕ) where
   line-first : k < n → Onward before at all out p (rowBytes word t k (n - k)) → Onward before at all out p (lineBytes word t k ++ rowBytes word t (k + 1) (n - (k + 1)))

@@ -3,11 +3,10 @@
 --     write-short, write-done                                             the answers where the tables are a plan
 -- Assumes nothing.
 use mathlib.Core.List.{List, _++_}
-use mathlib.Core.Path.{_≡_, sym, ap, _∙_, subst}
+use mathlib.Core.Path.{_≡_, sym, subst}
 use Prim.Native.Nat.{ℕ, _+_, _≤_, _<_}
-use native.Mathlib.Nat.{zero-add}
 use native.Mathlib.Omega.{arith}
-use lib.ListN.{length, drop}
+use lib.ListN.{length}
 use Rattle.units.specs.declared.Refusal.the-variants.{ShortOutput}
 use Rattle.plan.specs.Tables.{IsPlan}
 use Rattle.text.specs.declared.answer.Written.the-variants.{Length, Refused as NotWritten}
@@ -15,7 +14,7 @@ use Rattle.text.specs.Calls.{textOf, Writes, too-short, written}
 use Rattle.text.specs.Rows.{header, contactWord, rangeWord}
 use Rattle.print.specs.Model.{Wrote, rowBytes}
 use Rattle.print.proofs.LengthCode.{text-parts}
-use Rattle.print.proofs.PutCode.{Onward, onward-start, onward-room, onward-step, onward-as}
+use Rattle.print.proofs.PutCode.{wrote-front, Onward, onward-start, onward-room, onward-step, onward-as}
 
 module _ (out contacts : List ℕ) (m : ℕ) (ranges : List ℕ) (n : ℕ) where
   module _ (room : length (textOf contacts m ranges n) ≤ length out) where
@@ -55,8 +54,5 @@ module _ (out contacts : List ℕ) (m : ℕ) (ranges : List ℕ) (n : ℕ) where
         → Writes contacts m ranges n out (Length needed) out′
     write-done h out′ r w =
         let text = textOf contacts m ranges n in
-        let same : out′ ≡ text ++ drop (length text) out =
-        w .bytes-are ∙ ap (λ (k : ℕ). text ++ drop k out) (zero-add (length text))
-        in
         subst (λ (k : ℕ). Writes contacts m ranges n out (Length k) out′) (sym e)
-        (subst (Writes contacts m ranges n out (Length (length text))) (sym same) (written plan (subst (λ (k : ℕ). k ≤ length out) e h)))
+        (subst (Writes contacts m ranges n out (Length (length text))) (sym (wrote-front w)) (written plan (subst (λ (k : ℕ). k ≤ length out) e h)))

@@ -1,4 +1,4 @@
--- What the functions inside `write` say. A reader of the promises may skip it.
+-- What the functions inside `write` say, which `desk` cites too. A reader of the promises may skip it.
 --     Wrote         bytes stand at a place, and all around them is as it was
 --     fieldBytes    the fields that words of a table make, from a place on
 --     lineBytes     the line of a row

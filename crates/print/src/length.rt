@@ -22,12 +22,12 @@ fn digits(n: u64) -> usize
     k
 }
 
-// How long the five fields are, with their tabs, whose first word stands at `from`.
-fn fields_length(table: &[u64], from: usize) -> usize
-    requires { ⌜ from + words ≤ length (now table) ⌝ }
-    ensures { λ r. ⌜ (r ≡ length (fieldBytes (now (table .entry)) from words)) × (r ≤ 105) ⌝ }
+// How long `count` fields are, with their tabs. The first one's word stands at `from`.
+pub fn fields_length(table: &[u64], from: usize, count: usize) -> usize
+    requires { ⌜ (from + count ≤ length (now table)) × (count ≤ 512) ⌝ }
+    ensures { λ r. ⌜ (r ≡ length (fieldBytes (now (table .entry)) from count)) × (r ≤ count * 21) ⌝ }
 {
-    let end = from + WORDS;
+    let end = from + count;
     let mut sum = 0;
     let mut i = from;
     while i < end {
@@ -45,7 +45,7 @@ fn rows_length(word: &[u8], table: &[u64], n: usize) -> usize
     let mut sum = 0;
     let mut k = 0;
     while k < n {
-        sum += word.len() + fields_length(table, k * WORDS) + 1;
+        sum += word.len() + fields_length(table, k * WORDS, WORDS) + 1;
         k += 1;
     }
     sum

@@ -12,7 +12,7 @@ const TAB: u8 = 9;
 
 const LINE_FEED: u8 = 10;
 
-fn put_byte(out: &mut [u8], at: usize, b: u8) -> usize
+pub fn put_byte(out: &mut [u8], at: usize, b: u8) -> usize
     requires { ⌜ at < length (now out) ⌝ }
     ensures { λ r. ⌜ Wrote (now (out .entry)) at (b ∷ []) (now (out .exit)) r ⌝ }
 {
@@ -54,12 +54,12 @@ fn put_field(out: &mut [u8], at: usize, n: u64) -> usize
     put_number(out, next, n)
 }
 
-// The five fields whose first word stands at `from`.
-fn put_fields(out: &mut [u8], at: usize, table: &[u64], from: usize) -> usize
-    requires { ⌜ (from + words ≤ length (now table)) × (at + length (fieldBytes (now table) from words) ≤ length (now out)) ⌝ }
-    ensures { λ r. ⌜ Wrote (now (out .entry)) at (fieldBytes (now (table .entry)) from words) (now (out .exit)) r ⌝ }
+// Of the words from `from` on, `count` fields.
+pub fn put_fields(out: &mut [u8], at: usize, table: &[u64], from: usize, count: usize) -> usize
+    requires { ⌜ (from + count ≤ length (now table)) × (at + length (fieldBytes (now table) from count) ≤ length (now out)) ⌝ }
+    ensures { λ r. ⌜ Wrote (now (out .entry)) at (fieldBytes (now (table .entry)) from count) (now (out .exit)) r ⌝ }
 {
-    let end = from + WORDS;
+    let end = from + count;
     let mut next = at;
     let mut i = from;
     while i < end {
@@ -75,7 +75,7 @@ fn put_line(out: &mut [u8], at: usize, word: &[u8], table: &[u64], k: usize) -> 
     ensures { λ r. ⌜ Wrote (now (out .entry)) at (lineBytes (now (word .entry)) (now (table .entry)) k) (now (out .exit)) r ⌝ }
 {
     let fields = put_bytes(out, at, word);
-    let end = put_fields(out, fields, table, k * WORDS);
+    let end = put_fields(out, fields, table, k * WORDS, WORDS);
     put_byte(out, end, LINE_FEED)
 }
 

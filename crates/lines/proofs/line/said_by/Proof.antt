@@ -1,6 +1,6 @@
 -- `lines::line::said_by` meets its contract.
 -- Assumes nothing.
-use mathlib.Core.Path.{refl, sym, _∙_}
+use mathlib.Core.Path.{sym, _∙_}
 use borrow.Author.Tests.{not-true, not-false}
 use borrow.Author.Needs.{needs}
 use Rattle.text.specs.Rows.{contactWord, rangeWord}
@@ -15,7 +15,7 @@ slice-aggregate-numbers : tie.Need-slice-aggregate-numbers
 slice-aggregate-numbers c = search needs
 
 numbers-requires : tie.Need-numbers-requires
-numbers-requires c κs = (refl, word-end _ _ (c .before .find .ensures))
+numbers-requires c κs = word-end _ _ (c .before .find .ensures)
 
 returns : tie.Need-returns
 returns c =

@@ -5,25 +5,24 @@ use Prim.Native.Nat.{_+_, _-_, _*_, _≤_}
 use native.Mathlib.Omega.{arith}
 use borrow.Author.Needs.{needs}
 use lib.ListN.{length}
-use Rattle.plan.specs.Tables.{words}
 use Rattle.print.specs.Model.{fieldBytes}
 use Rattle.print.proofs.LengthCode.{fields-all, sum-field, sum-fields-end}
 use Rattle.print.proofs.length.fields_length.Statement.{statement}
 use Rattle.print.proofs.length.fields_length.Tie as tie
 
 abbrev Inv-loop : tie.InvT-loop
-Inv-loop table from end sum₀ i₀ sum i =
-    (from ≤ i) × (i ≤ end) × (end ≡ from + words) × (length (fieldBytes table from words) ≡ sum + length (fieldBytes table i (end - i)))
+Inv-loop table from count end sum₀ i₀ sum i =
+    (from ≤ i) × (i ≤ end) × (end ≡ from + count) × (length (fieldBytes table from count) ≡ sum + length (fieldBytes table i (end - i)))
     × (sum ≤ 21 * (i - from))
 
 abbrev μ-loop : tie.MeasureT-loop
-μ-loop table from end sum₀ i₀ sum i = end - i
+μ-loop table from count end sum₀ i₀ sum i = end - i
 
 add-end : tie.Need-add-end Inv-loop μ-loop
-add-end c = omega (arith, c .before .pre, c .before .good)
+add-end c = omega (arith, c .before .pre .0, c .before .good)
 
 loop-holds : tie.Need-loop-holds Inv-loop μ-loop
-loop-holds c = (omega arith, omega arith, refl, fields-all _ _ _ refl, omega arith)
+loop-holds c = (omega arith, omega arith, refl, fields-all _ _ _ _ refl, omega arith)
 
 mul-digits : tie.Need-mul-digits Inv-loop μ-loop
 mul-digits c = search needs
@@ -32,7 +31,7 @@ shared-slice-read-digits : tie.Need-shared-slice-read-digits Inv-loop μ-loop
 shared-slice-read-digits c =
     let start = c .before .before .before .before in
     let inv = c .before .before .loop .inv in
-    omega (arith, inv .2, c .before .loop-test .taken, start .pre)
+    omega (arith, inv .2, c .before .loop-test .taken, start .pre .0)
 
 digits-requires : tie.Need-digits-requires Inv-loop μ-loop
 digits-requires c κs = search needs
@@ -49,7 +48,7 @@ add-i : tie.Need-add-i Inv-loop μ-loop
 add-i c =
     let at-loop = c .before .before .before in
     let start = at-loop .before .before in
-    omega (arith, c .before .before .loop-test .taken, at-loop .loop .inv .2, start .pre, start .good)
+    omega (arith, c .before .before .loop-test .taken, at-loop .loop .inv .2, start .pre .0, start .good)
 
 loop-less : tie.Need-loop-less Inv-loop μ-loop
 loop-less c = omega (arith, c .before .before .loop-test .taken)

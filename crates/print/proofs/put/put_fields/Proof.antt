@@ -4,24 +4,23 @@ use mathlib.Core.Path.{_≡_, refl}
 use Prim.Native.Nat.{_+_, _-_, _≤_}
 use native.Mathlib.Omega.{arith}
 use borrow.Author.Needs.{needs}
-use Rattle.plan.specs.Tables.{words}
 use Rattle.print.specs.Model.{fieldBytes}
 use Rattle.print.proofs.PutCode.{Onward, fields-start, field-room, field-goes, fields-end}
 use Rattle.print.proofs.put.put_fields.Statement.{statement}
 use Rattle.print.proofs.put.put_fields.Tie as tie
 
 abbrev Inv-loop : tie.InvT-loop
-Inv-loop out₀ at table from end next₀ i₀ out next i =
-    (from ≤ i) × (i ≤ end) × (end ≡ from + words) × Onward out₀ at (fieldBytes table from words) out next (fieldBytes table i (end - i))
+Inv-loop out₀ at table from count end next₀ i₀ out next i =
+    (from ≤ i) × (i ≤ end) × (end ≡ from + count) × Onward out₀ at (fieldBytes table from count) out next (fieldBytes table i (end - i))
 
 abbrev μ-loop : tie.MeasureT-loop
-μ-loop out₀ at table from end next₀ i₀ out next i = end - i
+μ-loop out₀ at table from count end next₀ i₀ out next i = end - i
 
 add-end : tie.Need-add-end Inv-loop μ-loop
 add-end c = omega (arith, c .before .before .pre .0, c .before .before .good)
 
 loop-holds : tie.Need-loop-holds Inv-loop μ-loop
-loop-holds c = (omega arith, omega arith, refl, fields-start _ _ _ _ _ refl (c .before .before .pre .1))
+loop-holds c = (omega arith, omega arith, refl, fields-start _ _ _ _ _ _ refl (c .before .before .pre .1))
 
 mul-put-field : tie.Need-mul-put-field Inv-loop μ-loop
 mul-put-field c = search needs
