@@ -1,0 +1,5 @@
+pub mod Answers
+pub mod AskModel
+pub mod Asks
+pub mod Desk
+pub mod Writing

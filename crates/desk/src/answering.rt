@@ -1,0 +1,54 @@
+// The public call `answer_line`: an ask line answered over the plan that lent tables hold.
+use crate::answer::write_answer;
+use crate::ask::AskRead;
+use crate::ask::read_ask;
+use search::Routed;
+use search::route;
+use text::Written;
+use units::Ask;
+use units::MOST_CHAIN;
+ghost use Rattle.text.specs.Model.{lineIn};
+ghost use Rattle.desk.specs.Desk.{Answers, AnswersAsk};
+
+// The answer of `route`, written.
+fn answer_ask(
+    contacts: &[u64],
+    contact_count: usize,
+    ranges: &[u64],
+    range_count: usize,
+    ask: Ask,
+    out: &mut [u8],
+) -> Written
+    ensures { λ r. ⌜ AnswersAsk (now (contacts .entry)) «contact_count» (now (ranges .entry)) «range_count» ask (now (out .entry)) r (now (out .exit)) ⌝ }
+{
+    let mut chain = [0u64; MOST_CHAIN];
+    let answer = route(
+        contacts,
+        contact_count,
+        ranges,
+        range_count,
+        ask,
+        &mut chain,
+    );
+    write_answer(answer, &chain, out)
+}
+
+// Answers an ask line, which has no line feed here, as `read_ask` takes it: the length of the line written
+// into the lent bytes, or why nothing is written.
+pub fn answer_line(
+    contacts: &[u64],
+    contact_count: usize,
+    ranges: &[u64],
+    range_count: usize,
+    line: &[u8],
+    ended: bool,
+    number: u64,
+    out: &mut [u8],
+) -> Written
+    ensures { λ r. ⌜ Answers (now (contacts .entry)) «contact_count» (now (ranges .entry)) «range_count» (lineIn (now (line .entry)) ended) number (now (out .entry)) r (now (out .exit)) ⌝ }
+{
+    match read_ask(line, ended, number) {
+        AskRead::Asked(ask) => answer_ask(contacts, contact_count, ranges, range_count, ask, out),
+        AskRead::Refused(why) => write_answer(Routed::Refused(why), &[], out),
+    }
+}
