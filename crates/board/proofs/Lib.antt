@@ -1,0 +1,2 @@
+pub mod AnswerCode
+pub mod Theorems

@@ -1,0 +1,33 @@
+// `route` as a C function.
+use crate::answer::ANSWER_WORDS;
+use crate::answer::no_room;
+use crate::answer::put_routed;
+use crate::asking::ask_of;
+use search::route;
+ghost use Rattle.board.specs.Faces.{asked, BoardRoutes};
+
+// Finds the best chain for the ask that the six numbers are.
+#[no_mangle]
+pub extern "C" fn oivarnum_route(
+    contacts: &[u64],
+    contact_count: usize,
+    ranges: &[u64],
+    range_count: usize,
+    source: u64,
+    destination: u64,
+    time: u64,
+    size: u64,
+    deadline: u64,
+    excluded: u64,
+    chain: &mut [u64],
+    answer: &mut [u64],
+) -> u64
+    ensures { λ r. ⌜ BoardRoutes (now (contacts .entry)) «contact_count» (now (ranges .entry)) «range_count» (asked source destination time size deadline excluded) (now (chain .entry)) (now (answer .entry)) r (now (chain .exit)) (now (answer .exit)) ⌝ }
+{
+    if answer.len() < ANSWER_WORDS {
+        return no_room();
+    }
+    let ask = ask_of(source, destination, time, size, deadline, excluded);
+    let r = route(contacts, contact_count, ranges, range_count, ask, chain);
+    put_routed(r, answer)
+}
