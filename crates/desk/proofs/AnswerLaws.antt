@@ -1,5 +1,6 @@
 -- The promise of `write_answer` determines its result and every lent byte, and how long an answer's line can be.
 --     writes-answer-determined      two results that meet it are equal
+--     writes-answer-fits            what is written lies within the output
 --     route-line-short              the line of an answer of `route`: at most 305 bytes
 --     refused-line-short            the line of a refusal whose place has at most five digits: at most 17 bytes
 --     has-chain                     an answer of `route` counts contacts that the lent chain holds
@@ -51,6 +52,9 @@ writes-answer-determined (too-short has h) (written has′ h′) = absurd (omega
 writes-answer-determined (written has h) (no-chain n) = absurd (n has)
 writes-answer-determined (written has h) (too-short has′ h′) = absurd (omega arith)
 writes-answer-determined (written has h) (written has′ h′) = (refl, refl)
+
+pub writes-answer-fits : {answer : Routed} {chain out : List ℕ} {k : ℕ} {out′ : List ℕ} → WritesAnswer answer chain out (Length k) out′ → k ≤ length out
+writes-answer-fits (written has h) = h
 
 -- ---- the line of a refusal
 

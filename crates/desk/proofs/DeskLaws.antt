@@ -1,5 +1,6 @@
 -- What the promise of `answer_line` means.
 --     answers-determined      no two results meet it
+--     answers-fit             what is written lies within the output
 --     answers-has-room        305 bytes of output are always enough, for a line of any input there can be
 -- Assumes nothing.
 use mathlib.Core.List.{List, []}
@@ -22,7 +23,7 @@ use Rattle.desk.specs.Asks.{ReadsAsk, bad-shape, bad-value}
 use Rattle.desk.specs.Desk.{AnswersAsk, Answers, not-asked, answered}
 use Rattle.desk.specs.declared.ask.AskRead.{AskRead}
 use Rattle.desk.specs.declared.ask.AskRead.the-variants.{Asked, Refused}
-use Rattle.desk.proofs.AnswerLaws.{writes-answer-determined, answer-has-room, refused-has-room}
+use Rattle.desk.proofs.AnswerLaws.{writes-answer-determined, writes-answer-fits, answer-has-room, refused-has-room}
 use Rattle.desk.proofs.AskLaws.{reads-ask-determined}
 
 asked-determined : {contacts : List ℕ} {m : ℕ} {ranges : List ℕ} {k : ℕ} {ask : Ask} {out : List ℕ} {r s : Written} {out₁ out₂ : List ℕ}
@@ -49,6 +50,10 @@ module _ {contacts : List ℕ} {m : ℕ} {ranges : List ℕ} {k : ℕ} {l : Line
     where
       same-ask : {x y : Ask} → _≡_ {A = AskRead} (Asked x) (Asked y) → x ≡ y
       same-ask e = cc
+
+  pub answers-fit : {bytes : ℕ} {out′ : List ℕ} → Answers contacts m ranges k l n out (Length bytes) out′ → bytes ≤ length out
+  answers-fit (not-asked a w) = writes-answer-fits w
+  answers-fit (answered a w) = writes-answer-fits (w .writes)
 
   -- a line of an input of at most 65,536 bytes has a place below 100,000
   pub answers-has-room : {r : Written} {out′ : List ℕ} → n ≤ 99_999 → 305 ≤ length out → Answers contacts m ranges k l n out r out′

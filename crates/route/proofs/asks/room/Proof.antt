@@ -1,0 +1,25 @@
+-- `route::asks::room` meets its contract.
+-- Assumes nothing.
+use mathlib.Core.Path.{sym}
+use lib.Seq.{length-take-le}
+use borrow.Author.Needs.{needs}
+use Rattle.route.proofs.asks.room.Statement.{statement}
+use Rattle.route.proofs.asks.room.Tie as tie
+
+sub-if1 : tie.Need-sub-if1
+sub-if1 c = search needs
+
+returns : tie.Need-returns
+returns c = search needs
+
+slice-aggregate-print : tie.Need-slice-aggregate-print
+slice-aggregate-print c = sym (length-take-le _ _ (c .before .before .before .pre))
+
+print-requires : tie.Need-print-requires
+print-requires c κs = search needs
+
+returns-2 : tie.Need-returns-2
+returns-2 c = search needs
+
+pub room-spec : {M : Type 1} → statement M
+room-spec = tie.close (tie.spec sub-if1 returns slice-aggregate-print print-requires returns-2)
