@@ -17,8 +17,9 @@ use Rattle.units.specs.Refusals.{numberOf, placeOf}
 use Rattle.units.specs.declared.Ask.{Ask}
 use Rattle.units.specs.declared.Refusal.{Refusal}
 use Rattle.units.specs.declared.Refusal.the-variants.{LongText, NoHeader, LineShape, LineValue, AfterRange, TooMany, LineOverlap, FewRows, NoPlan, ShortOutput, AskValue, SameNode, NoChain, TooLate, ShortChain, NotAllowed, AskShape}
-use Rattle.plan.specs.Plan.{Plan, Valid}
-use Rattle.timing.specs.Chain.{contactOf, InPlan, Carries, stays, hops}
+use Rattle.service.specs.Service.{Service, Sound, contactOf, InPlan, unused}
+use Rattle.service.proofs.ServiceLaws.{service-sound}
+use Rattle.timing.specs.Chain.{Carries, stays, hops}
 use Rattle.timing.specs.Hop.{startOn}
 use Rattle.timing.proofs.ChainLaws.{carries-after}
 use Rattle.timing.proofs.HopLaws.{hop-sent}
@@ -98,13 +99,13 @@ fields-short k (n ∷ ns) short =
     let others = fields-short k ns (λ m at. short m (List·Memᴰ·tail at)) in
     rw (length-append, suc-mul) (omega arith)
 
-module _ {p : Plan} {ask : Ask} where
+module _ {p : Service} {ask : Ask} where
   -- the file starts on the first contact no later than it is delivered
   starts-early : {u t v r : ℕ} {cs : List ℕ} → 1 ≤ length cs → Carries p ask u t cs v r → startOn (contactOf p (getD cs 0 0)) t ≤ r
   starts-early h stays = absurd (omega arith)
-  starts-early h (hops i f b e k) = omega (arith, hop-sent _ _ _ _ _ e, carries-after k)
+  starts-early h (hops i f b e k) = omega (arith, hop-sent _ _ _ _ _ _ e, carries-after k)
 
-  best-line-short : (f : Figures) (count : ℕ) (chain : List ℕ) → Valid p → GoodAsk ask → HasFigures p ask (take count chain) f → count ≤ mostChain
+  best-line-short : (f : Figures) (count : ℕ) (chain : List ℕ) → Sound p → GoodAsk ask → HasFigures p ask (take count chain) f → count ≤ mostChain
       → length (answerBytes (Best f count) chain) ≤ 305
   unfolding answerBytes answerLine routeWord lineOf glueLine glueFields lastTime mostSize mostContacts mostChain
   best-line-short f count chain valid good has few =
@@ -149,7 +150,7 @@ module _ {contacts : List ℕ} {m : ℕ} {ranges : List ℕ} {n : ℕ} {ask : As
   route-line-short {answer} {chain} r = go answer r
     where
       told : (f : Figures) (k : ℕ) → Walks contacts m ranges n ask (take k chain) (Carried f) → k ≤ mostChain → length (answerBytes (Best f k) chain) ≤ 305
-      told f k (walked plan good differ (carried has)) few = best-line-short f k chain (plan .valid) good has few
+      told f k (walked plan good differ (carried has)) few = best-line-short f k chain (service-sound _ (plan .valid) unused) good has few
 
       go : (a : Routed) → Routes contacts m ranges n ask before a chain → length (answerBytes a chain) ≤ 305
       go (Best f k) r = told f k (routes-walks r) (routes-short r)

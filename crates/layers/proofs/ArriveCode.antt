@@ -8,11 +8,11 @@ use Rattle.units.specs.declared.Ask.{Ask}
 use Rattle.units.specs.declared.Millis.{Millis}
 use Rattle.units.specs.Limits.{lastTime, mostLight}
 use Rattle.plan.specs.declared.rows.Contact.{Contact}
-use Rattle.plan.specs.Plan.{Plan}
-use Rattle.plan.specs.Tables.{contactAt, planOf, IsPlan}
+use Rattle.plan.specs.Tables.{contactAt}
+use Rattle.service.specs.Service.{Service, InPlan}
+use Rattle.service.specs.Tables.{served, IsService}
 use Rattle.timing.specs.declared.arrival.Arrival.{Arrival}
 use Rattle.timing.specs.declared.arrival.Arrival.the-variants.{Ready, Never}
-use Rattle.timing.specs.Chain.{contactOf, InPlan}
 use Rattle.timing.specs.Model.{stepOver}
 use Rattle.timing.proofs.ChainCode.{contact-lent, step-bounded}
 use Rattle.network.specs.Model.{behind}
@@ -22,30 +22,30 @@ use Rattle.layers.specs.Words.{neverWord, whenWord, TimeWord}
 use Rattle.layers.proofs.RowLaws.{when-never, when-time}
 
 -- the word of when the file is ready behind contact c, from the word before it
-abbrev pub Arrives : Plan → Ask → ℕ → ℕ → ℕ → Type 0
+abbrev pub Arrives : Service → Ask → ℕ → ℕ → ℕ → Type 0
 Arrives p ask c ready r = (whenWord r ≡ behind (networkOf p ask) c (whenWord ready)) × TimeWord r
 
-pub arrive-never : (p : Plan) (ask : Ask) (c ready : ℕ) → ready ≡ neverWord → Arrives p ask c ready neverWord
+pub arrive-never : (p : Service) (ask : Ask) (c ready : ℕ) → ready ≡ neverWord → Arrives p ask c ready neverWord
 unfolding behind
 arrive-never p ask c ready e = (rw (when-never ready e, when-never neverWord refl), inr refl)
 
-module _ (contacts : List ℕ) (m : ℕ) (ranges : List ℕ) (n : ℕ) (plan : IsPlan contacts m ranges n) (ask : Ask) (c ready : ℕ)
-    (named : InPlan (planOf contacts m ranges n) c) (time : ready ≤ lastTime + mostLight) (x : Contact) (ex : x ≡ contactAt contacts (c - 1)) where
+module _ (contacts : List ℕ) (m : ℕ) (pairs : List ℕ) (plan : IsService contacts m pairs) (ask : Ask) (c ready : ℕ)
+    (named : InPlan (served contacts m pairs) c) (time : ready ≤ lastTime + mostLight) (x : Contact) (ex : x ≡ contactAt contacts (c - 1)) where
   -- the step from the node that was read is the step of the network
-  steps : (a : Arrival) → a ≡ stepOver (planOf contacts m ranges n) ask (x .from .0) ready c
-      → behind (networkOf (planOf contacts m ranges n) ask) c (whenWord ready) ≡ whenOf a
+  steps : (a : Arrival) → a ≡ stepOver (served contacts m pairs) ask (x .from .0) ready c
+      → behind (networkOf (served contacts m pairs) ask) c (whenWord ready) ≡ whenOf a
   unfolding behind networkOf
   steps a ea =
       rw (when-time ready time)
-      (ap (λ (y : Contact). whenOf (stepOver (planOf contacts m ranges n) ask (y .from .0) ready c)) (contact-lent contacts m ranges n c named ∙ sym ex)
+      (ap (λ (y : Contact). whenOf (stepOver (served contacts m pairs) ask (y .from .0) ready c)) (contact-lent contacts m pairs c named ∙ sym ex)
       ∙ ap whenOf (sym ea))
 
-  pub arrive-ready : (a : Arrival) (t : Millis) → a ≡ stepOver (planOf contacts m ranges n) ask (x .from .0) ready c → a ≡ Ready t
-      → Arrives (planOf contacts m ranges n) ask c ready (t .0)
+  pub arrive-ready : (a : Arrival) (t : Millis) → a ≡ stepOver (served contacts m pairs) ask (x .from .0) ready c → a ≡ Ready t
+      → Arrives (served contacts m pairs) ask c ready (t .0)
   arrive-ready a t ea et =
-      let bound : t .0 ≤ lastTime + mostLight = step-bounded (planOf contacts m ranges n) (plan .valid) ask (x .from .0) ready c t (sym ea ∙ et) in
+      let bound : t .0 ≤ lastTime + mostLight = step-bounded (served contacts m pairs) (plan .sound) ask (x .from .0) ready c t (sym ea ∙ et) in
       (when-time (t .0) bound ∙ sym (steps a ea ∙ ap whenOf et), inl bound)
 
-  pub arrive-unready : (a : Arrival) → a ≡ stepOver (planOf contacts m ranges n) ask (x .from .0) ready c → a ≡ Never
-      → Arrives (planOf contacts m ranges n) ask c ready neverWord
+  pub arrive-unready : (a : Arrival) → a ≡ stepOver (served contacts m pairs) ask (x .from .0) ready c → a ≡ Never
+      → Arrives (served contacts m pairs) ask c ready neverWord
   arrive-unready a ea et = (when-never neverWord refl ∙ sym (steps a ea ∙ ap whenOf et), inr refl)

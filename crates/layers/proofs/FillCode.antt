@@ -14,9 +14,10 @@ use lib.Dec.{lit≤}
 use lib.ListN.{length, set, take, drop, replicate, length-set, length-replicate, getD-replicate}
 use Rattle.units.specs.declared.Ask.{Ask}
 use Rattle.units.specs.Limits.{lastTime, mostLight, mostNodes}
-use Rattle.plan.specs.Plan.{Plan, Each}
-use Rattle.plan.specs.Tables.{planOf}
-use Rattle.plan.proofs.Lent.{length-contacts}
+use Rattle.plan.specs.Plan.{Each}
+use Rattle.service.specs.Service.{Service, blank}
+use Rattle.timing.proofs.ChainCode.{length-served}
+use Rattle.service.specs.Tables.{served}
 use Rattle.walk.specs.Walk.{GoodAsk}
 use Rattle.network.specs.Model.{relaxed, layer}
 use Rattle.network.specs.Network.{When, never, Network}
@@ -118,7 +119,7 @@ unfolding blankWords
 length-blank = length-replicate (mostNodes * mostNodes) neverWord
 
 -- the file at its source, at the ask's time
-pub rows-begin : (p : Plan) (ask : Ask) → GoodAsk ask → (words exit : List ℕ) → words ≡ blankWords
+pub rows-begin : (p : Service) (ask : Ask) → GoodAsk ask → (words exit : List ℕ) → words ≡ blankWords
     → exit ≡ set words (0 * mostNodes + (ask .source .0 - 1)) (ask .time .0) → RowsTo (networkOf p ask) exit 0
 unfolding layer networkOf
 rows-begin p ask good words exit ew ee =
@@ -138,6 +139,6 @@ rows-begin p ask good words exit ew ee =
     }
 
 -- the network of a lent plan has as many contacts as the tables count
-pub contacts-counted : (contacts : List ℕ) (m : ℕ) (ranges : List ℕ) (n : ℕ) (ask : Ask) → networkOf (planOf contacts m ranges n) ask .contacts ≡ m
+pub contacts-counted : (contacts : List ℕ) (m : ℕ) (pairs : List ℕ) (ask : Ask) → networkOf (served contacts m pairs) ask .contacts ≡ m
 unfolding networkOf
-contacts-counted contacts m ranges n ask = length-contacts contacts m ranges n
+contacts-counted contacts m pairs ask = length-served contacts m pairs

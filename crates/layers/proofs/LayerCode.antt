@@ -14,9 +14,10 @@ use lib.Seq.{set-getD}
 use Rattle.units.specs.declared.Ask.{Ask}
 use Rattle.units.specs.Limits.{mostNodes}
 use Rattle.plan.specs.declared.rows.Contact.{Contact}
-use Rattle.plan.specs.Plan.{Plan, GoodContact, Each}
-use Rattle.plan.specs.Tables.{contactAt, planOf, IsPlan}
-use Rattle.timing.specs.Chain.{contactOf, InPlan}
+use Rattle.plan.specs.Plan.{GoodContact, Each}
+use Rattle.plan.specs.Tables.{contactAt}
+use Rattle.service.specs.Service.{Service, contactOf, InPlan}
+use Rattle.service.specs.Tables.{served, IsService}
 use Rattle.timing.proofs.ChainCode.{contact-lent, named-good}
 use Rattle.network.specs.Model.{behind, earlier, relax, relaxed}
 use Rattle.network.specs.Network.{When, never}
@@ -25,11 +26,11 @@ use Rattle.layers.specs.Words.{neverWord, whenWord, TimeWord, rowOf, lay
 use Rattle.layers.proofs.ArriveCode.{Arrives}
 use Rattle.layers.proofs.RowLaws.{when-lower, when-kept, time-most, row-set-other, getD-layer, layer-set, time-set, time-row}
 
-pub ends-are : (contacts : List ℕ) (m : ℕ) (ranges : List ℕ) (n c : ℕ) → IsPlan contacts m ranges n → InPlan (planOf contacts m ranges n) c
-    → (x : Contact) → x ≡ contactAt contacts (c - 1) → AreEnds (planOf contacts m ranges n) c (x .from .0 - 1) (x .to .0 - 1)
-ends-are contacts m ranges n c plan named x ex =
-    let same : x ≡ contactOf (planOf contacts m ranges n) c = ex ∙ sym (contact-lent contacts m ranges n c named) in
-    let good : GoodContact x = subst GoodContact (sym ex) (named-good contacts m ranges n c plan named) in
+pub ends-are : (contacts : List ℕ) (m : ℕ) (pairs : List ℕ) (c : ℕ) → IsService contacts m pairs → InPlan (served contacts m pairs) c
+    → (x : Contact) → x ≡ contactAt contacts (c - 1) → AreEnds (served contacts m pairs) c (x .from .0 - 1) (x .to .0 - 1)
+ends-are contacts m pairs c plan named x ex =
+    let same : x ≡ contactOf (served contacts m pairs) c = ex ∙ sym (contact-lent contacts m pairs c named) in
+    let good : GoodContact x = subst GoodContact (sym ex) (named-good contacts m pairs c plan named) in
     record {
       from-is = ap (λ (y : Contact). y .from .0 - 1) same;
       to-is = ap (λ (y : Contact). y .to .0 - 1) same;
@@ -37,7 +38,7 @@ ends-are contacts m ranges n c plan named x ex =
       to-node = omega (arith, good .to-node);
     }
 
-module _ (p : Plan) (ask : Ask) (words : List ℕ) (k c from to arrival : ℕ) (inside : (k + 2) * mostNodes ≤ length words) (timed : Each TimeWord words)
+module _ (p : Service) (ask : Ask) (words : List ℕ) (k c from to arrival : ℕ) (inside : (k + 2) * mostNodes ≤ length words) (timed : Each TimeWord words)
     (ends : AreEnds p c from to)
     (ready : ℕ) (er : ready ≡ getD (rowOf words k) from 0) (comes : Arrives p ask c ready arrival) where
   arrives : Arrives p ask c (getD (rowOf words k) from 0) arrival
@@ -88,7 +89,7 @@ module _ (p : Plan) (ask : Ask) (words : List ℕ) (k c from to arrival : ℕ) (
             ∙ set-getD (layerOf words (suc k)) to never);
       })
 
-module _ (p : Plan) (ask : Ask) (entry : List ℕ) (k : ℕ) where
+module _ (p : Service) (ask : Ask) (entry : List ℕ) (k : ℕ) where
   pub none-tried : Each TimeWord entry → layerOf entry (k + 1) ≡ layerOf entry k → Layered entry entry k (relaxed (networkOf p ask) (layerOf entry k) 0)
   unfolding relaxed
   none-tried timed e = record { long = refl; timed = timed; kept = λ j l. refl; is = ap (layerOf entry) (sym (add-one k)) ∙ e }

@@ -16,11 +16,9 @@ use Rattle.units.specs.declared.Millis.{Millis}
 use Rattle.units.specs.declared.NodeNo.{NodeNo}
 use Rattle.plan.specs.declared.light.Light.{Light}
 use Rattle.plan.specs.declared.rows.Contact.{Contact}
-use Rattle.plan.specs.Light.{lightOf}
-use Rattle.plan.specs.Plan.{Plan, Valid}
+use Rattle.service.specs.Service.{Service, Sound, contactOf, lightIn, leftIn, InPlan}
 use Rattle.timing.specs.declared.arrival.Arrival.{Arrival}
 use Rattle.timing.specs.declared.arrival.Arrival.the-variants.{Ready, Never}
-use Rattle.timing.specs.Chain.{contactOf, InPlan}
 use Rattle.timing.specs.Hop.{hopped, isBarred, pickArrival}
 use Rattle.timing.specs.Model.{goesOn, overContact, stepOver, backOver}
 use Rattle.walk.specs.Walk.{GoodAsk}
@@ -30,20 +28,20 @@ use Rattle.network.specs.Network.{When, at, NotLater, both, last, Within, withi
 use Rattle.layers.specs.Bridge.{whenOf, backStep, networkOf}
 use Rattle.layers.specs.Bridge.{goal}
 
-pub contact-in-plan : {p : Plan} (ask : Ask) {c : ℕ} → IsContact (networkOf p ask) c → InPlan p c
+pub contact-in-plan : {p : Service} (ask : Ask) {c : ℕ} → IsContact (networkOf p ask) c → InPlan p c
 unfolding networkOf
 contact-in-plan ask i = record { least = i .least; most = i .most }
 
-pub in-plan-contact : {p : Plan} (ask : Ask) {c : ℕ} → InPlan p c → IsContact (networkOf p ask) c
+pub in-plan-contact : {p : Service} (ask : Ask) {c : ℕ} → InPlan p c → IsContact (networkOf p ask) c
 unfolding networkOf
 in-plan-contact ask i = record { least = i .least; most = i .most }
 
 -- a hop over a contact that may be barred, and the limit before it
-unfoldable pub barredHop : Bool → Light → Contact → ℕ → ℕ → When
-barredHop bar light x size t = whenOf (pickArrival bar Never (hopped light x size t))
+unfoldable pub barredHop : Bool → Light → ℕ → Contact → ℕ → ℕ → When
+barredHop bar light left x size t = whenOf (pickArrival bar Never (hopped light left x size t))
 
-barredBack : Bool → Light → Contact → ℕ → ℕ → ℕ
-barredBack bar light x size limit = cond bar 0 (backOver light x size limit)
+barredBack : Bool → Light → ℕ → Contact → ℕ → ℕ → ℕ
+barredBack bar light left x size limit = cond bar 0 (backOver light left x size limit)
 
 -- a file that is ready wherever another is, and no later
 arrival-not-later : (a b : Arrival) → ((y : Millis) → b ≡ Ready y → (x : Millis) × (a ≡ Ready x) × (x .0 ≤ y .0)) → NotLater (whenOf a) (whenOf b)
@@ -54,42 +52,42 @@ within-arrival : (a : Arrival) {limit : ℕ} → Within (whenOf a) limit → (x 
 within-arrival (Ready x) (within h) = (x, refl, h)
 
 -- the laws of one hop
-module _ (light : Light) (x : Contact) (size : ℕ) where
-  sooner-barred : (bar : Bool) {s t : ℕ} → s ≤ t → NotLater (barredHop bar light x size s) (barredHop bar light x size t)
+module _ (light : Light) (left : ℕ) (x : Contact) (size : ℕ) where
+  sooner-barred : (bar : Bool) {s t : ℕ} → s ≤ t → NotLater (barredHop bar light left x size s) (barredHop bar light left x size t)
   unfolding barredHop
   sooner-barred true h = last
-  sooner-barred false {s} {t} h = arrival-not-later (hopped light x size s) (hopped light x size t) (hop-sooner light x size h)
+  sooner-barred false {s} {t} h = arrival-not-later (hopped light left x size s) (hopped light left x size t) (hop-sooner light left x size h)
 
-  after-barred : (bar : Bool) (t : ℕ) → NotLater (at t) (barredHop bar light x size t)
+  after-barred : (bar : Bool) (t : ℕ) → NotLater (at t) (barredHop bar light left x size t)
   unfolding barredHop
   after-barred true t = last
   after-barred false t =
-      arrival-not-later (Ready (record { 0 = t })) (hopped light x size t) (λ y e. (record { 0 = t }, refl, hop-after light x size t y e))
+      arrival-not-later (Ready (record { 0 = t })) (hopped light left x size t) (λ y e. (record { 0 = t }, refl, hop-after light left x size t y e))
 
-  enough-barred : (bar : Bool) (t limit : ℕ) → t < barredBack bar light x size limit → Within (barredHop bar light x size t) limit
+  enough-barred : (bar : Bool) (t limit : ℕ) → t < barredBack bar light left x size limit → Within (barredHop bar light left x size t) limit
   unfolding barredHop barredBack
   enough-barred true t limit h = absurd (omega arith)
-  enough-barred false t limit h = let (y, e, l) = back-enough light x size limit t h in rw e (within l)
+  enough-barred false t limit h = let (y, e, l) = back-enough light left x size limit t h in rw e (within l)
 
-  needed-barred : (bar : Bool) (t limit : ℕ) → Within (barredHop bar light x size t) limit → t < barredBack bar light x size limit
+  needed-barred : (bar : Bool) (t limit : ℕ) → Within (barredHop bar light left x size t) limit → t < barredBack bar light left x size limit
   unfolding barredHop barredBack
   needed-barred true t limit h = elim h [ ]
-  needed-barred false t limit h = let (y, e, l) = within-arrival (hopped light x size t) h in back-needed light x size limit t y e l
+  needed-barred false t limit h = let (y, e, l) = within-arrival (hopped light left x size t) h in back-needed light left x size limit t y e l
 
-pub step-is : (p : Plan) (ask : Ask) (c t : ℕ) → InPlan p c
-    → networkOf p ask .step c t ≡ barredHop (isBarred ask (contactOf p c)) (lightOf (p .ranges) (contactOf p c)) (contactOf p c) (ask .size) t
+pub step-is : (p : Service) (ask : Ask) (c t : ℕ) → InPlan p c
+    → networkOf p ask .step c t ≡ barredHop (isBarred ask (contactOf p c)) (lightIn p c) (leftIn p c) (contactOf p c) (ask .size) t
 unfolding barredHop networkOf stepOver goesOn overContact
 step-is p ask c t i =
     let x : Contact = contactOf p c in
     rw (le-leb 1 c (i .least), le-leb c (length (p .contacts)) (i .most), eq-eqb (x .from .0) (x .from .0) refl)
-    (ap whenOf (turned (isBarred ask x) (hopped (lightOf (p .ranges) x) x (ask .size) t)))
+    (ap whenOf (turned (isBarred ask x) (hopped (lightIn p c) (leftIn p c) x (ask .size) t)))
   where
     turned : (b : Bool) (a : Arrival) → pickArrival (not b) a Never ≡ pickArrival b Never a
     turned true a = refl
     turned false a = refl
 
-back-is : (p : Plan) (ask : Ask) (c limit : ℕ)
-    → networkOf p ask .back c limit ≡ barredBack (isBarred ask (contactOf p c)) (lightOf (p .ranges) (contactOf p c)) (contactOf p c) (ask .size) limit
+back-is : (p : Service) (ask : Ask) (c limit : ℕ)
+    → networkOf p ask .back c limit ≡ barredBack (isBarred ask (contactOf p c)) (lightIn p c) (leftIn p c) (contactOf p c) (ask .size) limit
 unfolding barredBack networkOf backStep
 back-is p ask c limit = refl
 
@@ -97,25 +95,25 @@ back-is p ask c limit = refl
 node-below : (n : NodeNo) → IsNode n → n .0 - 1 < mostNodes
 node-below n h = omega (arith, h .least, h .most)
 
-pub goal-node : (p : Plan) (ask : Ask) → GoodAsk ask → goal ask < networkOf p ask .nodes
+pub goal-node : (p : Service) (ask : Ask) → GoodAsk ask → goal ask < networkOf p ask .nodes
 unfolding networkOf
 goal-node p ask good = node-below (ask .destination) (good .destination-node)
 
-pub goal-apart : (p : Plan) (ask : Ask) → GoodAsk ask → (ask .source .0 ≡ ask .destination .0 → ⊥) → goal ask ≡ networkOf p ask .source → ⊥
+pub goal-apart : (p : Service) (ask : Ask) → GoodAsk ask → (ask .source .0 ≡ ask .destination .0 → ⊥) → goal ask ≡ networkOf p ask .source → ⊥
 unfolding networkOf
 goal-apart p ask good differ e = differ (omega (arith, good .source-node .least, good .destination-node .least))
 
-pub network-laws : (p : Plan) → Valid p → (ask : Ask) → GoodAsk ask → Laws (networkOf p ask)
+pub network-laws : (p : Service) → Sound p → (ask : Ask) → GoodAsk ask → Laws (networkOf p ask)
 network-laws p valid ask good = record {
   source-node = unfold networkOf in node-below (ask .source) (good .source-node);
   from-node = λ c i. unfold networkOf in node-below (contactOf p c .from) (contact-good p valid c (contact-in-plan ask i) .from-node);
   to-node = λ c i. unfold networkOf in node-below (contactOf p c .to) (contact-good p valid c (contact-in-plan ask i) .to-node);
-  sooner = λ c s t i h. rw (hop c s i, hop c t i) (sooner-barred _ _ _ _ h);
-  after = λ c t i. rw (hop c t i) (after-barred _ _ _ _ t);
-  back-enough = λ c t limit i h. rw (hop c t i) (enough-barred _ _ _ _ t limit (rw (back-is p ask c limit) at h));
-  back-needed = λ c t limit i h. rw (back-is p ask c limit) (needed-barred _ _ _ _ t limit (rw (hop c t i) at h));
+  sooner = λ c s t i h. rw (hop c s i, hop c t i) (sooner-barred _ _ _ _ _ h);
+  after = λ c t i. rw (hop c t i) (after-barred _ _ _ _ _ t);
+  back-enough = λ c t limit i h. rw (hop c t i) (enough-barred _ _ _ _ _ t limit (rw (back-is p ask c limit) at h));
+  back-needed = λ c t limit i h. rw (back-is p ask c limit) (needed-barred _ _ _ _ _ t limit (rw (hop c t i) at h));
 }
   where
     hop : (c t : ℕ) → IsContact (networkOf p ask) c
-        → networkOf p ask .step c t ≡ barredHop (isBarred ask (contactOf p c)) (lightOf (p .ranges) (contactOf p c)) (contactOf p c) (ask .size) t
+        → networkOf p ask .step c t ≡ barredHop (isBarred ask (contactOf p c)) (lightIn p c) (leftIn p c) (contactOf p c) (ask .size) t
     hop c t i = step-is p ask c t (contact-in-plan ask i)

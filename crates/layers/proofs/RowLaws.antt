@@ -17,6 +17,7 @@ use lib.ListN.{length, getD, set, take, drop, length-set, length-take, length-dr
 use lib.Seq.{getD-take, getD-drop, take-set-lt, take-set-le, drop-set-add, getD-set-same, getD-set-other}
 use Rattle.units.specs.Limits.{lastTime, mostLight, mostNodes}
 use Rattle.plan.specs.Plan.{Each}
+use Rattle.service.specs.Service.{blank}
 use Rattle.network.specs.Model.{earlier}
 use Rattle.network.specs.Network.{When, at, never}
 use Rattle.layers.specs.Words.{neverWord, pickWhen, whenWord, TimeWord, rowOf, layerOf}

@@ -5,11 +5,9 @@ use Prim.Native.Nat.{ℕ, _-_}
 use lib.ListN.{length}
 use Rattle.units.specs.Limits.{mostNodes}
 use Rattle.units.specs.declared.Ask.{Ask}
-use Rattle.plan.specs.Light.{lightOf}
-use Rattle.plan.specs.Plan.{Plan}
+use Rattle.service.specs.Service.{Service, contactOf, lightIn, leftIn}
 use Rattle.timing.specs.declared.arrival.Arrival.{Arrival}
 use Rattle.timing.specs.declared.arrival.Arrival.the-variants.{Ready, Never}
-use Rattle.timing.specs.Chain.{contactOf}
 use Rattle.timing.specs.Hop.{isBarred}
 use Rattle.timing.specs.Model.{stepOver, backOver}
 use Rattle.network.specs.Network.{When, at, never, Network}
@@ -19,10 +17,10 @@ whenOf (Ready t) = at (t .0)
 whenOf Never = never
 
 -- the limit before a contact; nothing goes over a barred one
-unfoldable pub backStep : Plan → Ask → ℕ → ℕ → ℕ
-backStep p ask c limit = cond (isBarred ask (contactOf p c)) 0 (backOver (lightOf (p .ranges) (contactOf p c)) (contactOf p c) (ask .size) limit)
+unfoldable pub backStep : Service → Ask → ℕ → ℕ → ℕ
+backStep p ask c limit = cond (isBarred ask (contactOf p c)) 0 (backOver (lightIn p c) (leftIn p c) (contactOf p c) (ask .size) limit)
 
-unfoldable pub networkOf : Plan → Ask → Network
+unfoldable pub networkOf : Service → Ask → Network
 unfolding backStep
 networkOf p ask = record {
   nodes = mostNodes;

@@ -11,8 +11,8 @@ use Prim.Native.Nat.{ℕ, suc, _+_, _-_, _*_, _≤_, _<_}
 use lib.Dec.{eqb}
 use lib.ListN.{length, getD, take, drop, replicate}
 use Rattle.units.specs.Limits.{lastTime, mostLight, mostNodes}
-use Rattle.plan.specs.Plan.{Plan, Each}
-use Rattle.timing.specs.Chain.{contactOf}
+use Rattle.plan.specs.Plan.{Each}
+use Rattle.service.specs.Service.{Service, contactOf}
 use Rattle.network.specs.Model.{layer}
 use Rattle.network.specs.Network.{When, at, never, Network}
 
@@ -57,7 +57,7 @@ pub record Filled (N : Network) (words : List ℕ) (last : ℕ) : Type 0 where
   pub settled : layer N (mostNodes - 1) ≡ layer N last
 
 -- the nodes of the network that contact c is from and to
-pub record AreEnds (p : Plan) (c from to : ℕ) : Type 0 where
+pub record AreEnds (p : Service) (c from to : ℕ) : Type 0 where
   pub from-is : from ≡ contactOf p c .from .0 - 1
   pub to-is : to ≡ contactOf p c .to .0 - 1
   pub from-node : from < mostNodes

@@ -18,8 +18,8 @@ ghost use Prim.Native.Nat.{_+_, _*_, _≤_, _<_};
 ghost use lib.ListN.{length};
 ghost use Rattle.units.specs.Limits.{mostNodes};
 ghost use Rattle.plan.specs.Plan.{Each};
-ghost use Rattle.plan.specs.Tables.{IsPlan, planOf};
-ghost use Rattle.timing.specs.Chain.{InPlan};
+ghost use Rattle.service.specs.Service.{InPlan};
+ghost use Rattle.service.specs.Tables.{served, IsService};
 ghost use Rattle.walk.specs.Walk.{GoodAsk};
 ghost use Rattle.network.specs.Model.{behind, relax, relaxed};
 ghost use Rattle.layers.specs.Bridge.{networkOf};
@@ -29,29 +29,19 @@ ghost use Rattle.layers.specs.Words.{neverWord, whenWord, TimeWord, rowO
 pub fn arrive(
     contacts: &[u64],
     contact_count: usize,
-    ranges: &[u64],
-    range_count: usize,
+    pairs: &[u64],
     ask: Ask,
     no: ContactNo,
     ready: u64,
 ) -> u64
-    requires { ⌜ IsPlan (now contacts) «contact_count» (now ranges) «range_count» × GoodAsk ask × InPlan (planOf (now contacts) «contact_count» (now ranges) «range_count») (no .0) × TimeWord ready ⌝ }
-    ensures { λ r. ⌜ (whenWord r ≡ behind (networkOf (planOf (now (contacts .entry)) «contact_count» (now (ranges .entry)) «range_count») ask) (no .0) (whenWord ready)) × TimeWord r ⌝ }
+    requires { ⌜ IsService (now contacts) «contact_count» (now pairs) × GoodAsk ask × InPlan (served (now contacts) «contact_count» (now pairs)) (no .0) × TimeWord ready ⌝ }
+    ensures { λ r. ⌜ (whenWord r ≡ behind (networkOf (served (now (contacts .entry)) «contact_count» (now (pairs .entry))) ask) (no .0) (whenWord ready)) × TimeWord r ⌝ }
 {
     if ready == NEVER {
         return NEVER;
     }
     let from = contact_numbered(contacts, no).from;
-    let arrival = step(
-        contacts,
-        contact_count,
-        ranges,
-        range_count,
-        ask,
-        from,
-        Millis(ready),
-        no,
-    );
+    let arrival = step(contacts, contact_count, pairs, ask, from, Millis(ready), no);
     match arrival {
         Arrival::Ready(t) => t.0,
         Arrival::Never => NEVER,
@@ -64,15 +54,9 @@ pub struct Ends {
     pub to: usize,
 }
 
-pub fn ends_of(
-    contacts: &[u64],
-    contact_count: usize,
-    ranges: &[u64],
-    range_count: usize,
-    no: ContactNo,
-) -> Ends
-    requires { ⌜ IsPlan (now contacts) «contact_count» (now ranges) «range_count» × InPlan (planOf (now contacts) «contact_count» (now ranges) «range_count») (no .0) ⌝ }
-    ensures { λ r. ⌜ AreEnds (planOf (now (contacts .entry)) «contact_count» (now (ranges .entry)) «range_count») (no .0) (r .from) (r .to) ⌝ }
+pub fn ends_of(contacts: &[u64], contact_count: usize, pairs: &[u64], no: ContactNo) -> Ends
+    requires { ⌜ IsService (now contacts) «contact_count» (now pairs) × InPlan (served (now contacts) «contact_count» (now pairs)) (no .0) ⌝ }
+    ensures { λ r. ⌜ AreEnds (served (now (contacts .entry)) «contact_count» (now (pairs .entry))) (no .0) (r .from) (r .to) ⌝ }
 {
     let c = contact_numbered(contacts, no);
     Ends {
@@ -85,22 +69,21 @@ pub fn ends_of(
 fn try_contact(
     contacts: &[u64],
     contact_count: usize,
-    ranges: &[u64],
-    range_count: usize,
+    pairs: &[u64],
     ask: Ask,
     words: &mut [u64],
     k: usize,
     no: ContactNo,
 )
-    requires { ⌜ IsPlan (now contacts) «contact_count» (now ranges) «range_count» × GoodAsk ask × InPlan (planOf (now contacts) «contact_count» (now ranges) «range_count») (no .0) × Each TimeWord (now words) × ((k + 2) * mostNodes ≤ length (now words)) ⌝ }
-    ensures { λ _. ⌜ Layered (now (words .entry)) (now (words .exit)) k (relax (networkOf (planOf (now (contacts .entry)) «contact_count» (now (ranges .entry)) «range_count») ask) (layerOf (now (words .entry)) k) (no .0) (layerOf (now (words .entry)) (k + 1))) ⌝ }
+    requires { ⌜ IsService (now contacts) «contact_count» (now pairs) × GoodAsk ask × InPlan (served (now contacts) «contact_count» (now pairs)) (no .0) × Each TimeWord (now words) × ((k + 2) * mostNodes ≤ length (now words)) ⌝ }
+    ensures { λ _. ⌜ Layered (now (words .entry)) (now (words .exit)) k (relax (networkOf (served (now (contacts .entry)) «contact_count» (now (pairs .entry))) ask) (layerOf (now (words .entry)) k) (no .0) (layerOf (now (words .entry)) (k + 1))) ⌝ }
 {
-    let ends = ends_of(contacts, contact_count, ranges, range_count, no);
+    let ends = ends_of(contacts, contact_count, pairs, no);
     let from = ends.from;
     let to = ends.to;
     let next = k + 1;
     let ready = get(words, k, from);
-    let arrival = arrive(contacts, contact_count, ranges, range_count, ask, no, ready);
+    let arrival = arrive(contacts, contact_count, pairs, ask, no, ready);
     if arrival < get(words, next, to) {
         put(words, next, to, arrival);
     }
@@ -110,14 +93,13 @@ fn try_contact(
 fn try_all(
     contacts: &[u64],
     contact_count: usize,
-    ranges: &[u64],
-    range_count: usize,
+    pairs: &[u64],
     ask: Ask,
     words: &mut [u64],
     k: usize,
 )
-    requires { ⌜ IsPlan (now contacts) «contact_count» (now ranges) «range_count» × GoodAsk ask × Each TimeWord (now words) × ((k + 2) * mostNodes ≤ length (now words)) × (layerOf (now words) (k + 1) ≡ layerOf (now words) k) ⌝ }
-    ensures { λ _. ⌜ Layered (now (words .entry)) (now (words .exit)) k (relaxed (networkOf (planOf (now (contacts .entry)) «contact_count» (now (ranges .entry)) «range_count») ask) (layerOf (now (words .entry)) k) «contact_count») ⌝ }
+    requires { ⌜ IsService (now contacts) «contact_count» (now pairs) × GoodAsk ask × Each TimeWord (now words) × ((k + 2) * mostNodes ≤ length (now words)) × (layerOf (now words) (k + 1) ≡ layerOf (now words) k) ⌝ }
+    ensures { λ _. ⌜ Layered (now (words .entry)) (now (words .exit)) k (relaxed (networkOf (served (now (contacts .entry)) «contact_count» (now (pairs .entry))) ask) (layerOf (now (words .entry)) k) «contact_count») ⌝ }
 {
     let mut tried: usize = 0;
     while tried < contact_count {
@@ -125,8 +107,7 @@ fn try_all(
         try_contact(
             contacts,
             contact_count,
-            ranges,
-            range_count,
+            pairs,
             ask,
             words,
             k,
@@ -139,17 +120,16 @@ fn try_all(
 fn next_row(
     contacts: &[u64],
     contact_count: usize,
-    ranges: &[u64],
-    range_count: usize,
+    pairs: &[u64],
     ask: Ask,
     words: &mut [u64],
     k: usize,
 ) -> bool
-    requires { ⌜ IsPlan (now contacts) «contact_count» (now ranges) «range_count» × GoodAsk ask × Each TimeWord (now words) × ((k + 2) * mostNodes ≤ length (now words)) ⌝ }
-    ensures { λ t. ⌜ Layered (now (words .entry)) (now (words .exit)) k (relaxed (networkOf (planOf (now (contacts .entry)) «contact_count» (now (ranges .entry)) «range_count») ask) (layerOf (now (words .entry)) k) «contact_count») × (t ≡ true → rowOf (now (words .exit)) (k + 1) ≡ rowOf (now (words .exit)) k) ⌝ }
+    requires { ⌜ IsService (now contacts) «contact_count» (now pairs) × GoodAsk ask × Each TimeWord (now words) × ((k + 2) * mostNodes ≤ length (now words)) ⌝ }
+    ensures { λ t. ⌜ Layered (now (words .entry)) (now (words .exit)) k (relaxed (networkOf (served (now (contacts .entry)) «contact_count» (now (pairs .entry))) ask) (layerOf (now (words .entry)) k) «contact_count») × (t ≡ true → rowOf (now (words .exit)) (k + 1) ≡ rowOf (now (words .exit)) k) ⌝ }
 {
     copy_row(words, k);
-    try_all(contacts, contact_count, ranges, range_count, ask, words, k);
+    try_all(contacts, contact_count, pairs, ask, words, k);
     is_same(words, k)
 }
 
@@ -157,19 +137,18 @@ fn next_row(
 pub fn fill(
     contacts: &[u64],
     contact_count: usize,
-    ranges: &[u64],
-    range_count: usize,
+    pairs: &[u64],
     ask: Ask,
     words: &mut [u64],
 ) -> usize
-    requires { ⌜ IsPlan (now contacts) «contact_count» (now ranges) «range_count» × GoodAsk ask × (now words ≡ blankWords) ⌝ }
-    ensures { λ r. ⌜ Filled (networkOf (planOf (now (contacts .entry)) «contact_count» (now (ranges .entry)) «range_count») ask) (now (words .exit)) r ⌝ }
+    requires { ⌜ IsService (now contacts) «contact_count» (now pairs) × GoodAsk ask × (now words ≡ blankWords) ⌝ }
+    ensures { λ r. ⌜ Filled (networkOf (served (now (contacts .entry)) «contact_count» (now (pairs .entry))) ask) (now (words .exit)) r ⌝ }
 {
     let source = (ask.source.0 - 1) as usize;
     put(words, 0, source, ask.time.0);
     let mut k: usize = 0;
     while k < NODES - 1 {
-        let done = next_row(contacts, contact_count, ranges, range_count, ask, words, k);
+        let done = next_row(contacts, contact_count, pairs, ask, words, k);
         k += 1;
         if done {
             return k;

@@ -11,7 +11,7 @@ use native.Mathlib.Omega.{arith}
 use lib.ListN.{length}
 use Rattle.units.specs.Limits.{mostNodes, mostChain}
 use Rattle.units.specs.declared.Ask.{Ask}
-use Rattle.plan.specs.Plan.{Plan, Valid}
+use Rattle.service.specs.Service.{Service, Sound}
 use Rattle.timing.specs.Chain.{Allowed}
 use Rattle.walk.specs.Walk.{GoodAsk}
 use Rattle.network.specs.Best.{Reaches, Best}
@@ -23,7 +23,7 @@ use Rattle.search.specs.Route.{IsBest}
 use Rattle.search.proofs.Chains.{allowed-reaches}
 use Rattle.layers.proofs.NetworkLaws.{network-laws}
 
-pub is-best-unique : {p : Plan} {ask : Ask} {c₁ c₂ : List ℕ} {r₁ r₂ : ℕ} → IsBest p ask c₁ r₁ → IsBest p ask c₂ r₂ → (c₁ ≡ c₂) × (r₁ ≡ r₂)
+pub is-best-unique : {p : Service} {ask : Ask} {c₁ c₂ : List ℕ} {r₁ r₂ : ℕ} → IsBest p ask c₁ r₁ → IsBest p ask c₂ r₂ → (c₁ ≡ c₂) × (r₁ ≡ r₂)
 is-best-unique {p} {ask} b₁ b₂ = first-unique (Allowed p ask) _ _ _ _ (first b₁) (first b₂)
   where
     first : {chain : List ℕ} {r : ℕ} → IsBest p ask chain r → First (Allowed p ask) chain r
@@ -34,7 +34,7 @@ most-chain : (n : ℕ) → n < mostNodes → n ≤ mostChain
 unfolding mostNodes mostChain
 most-chain n h = omega arith
 
-module _ (p : Plan) (valid : Valid p) (ask : Ask) (good : GoodAsk ask) (differ : ask .source .0 ≡ ask .destination .0 → ⊥) where
+module _ (p : Service) (valid : Sound p) (ask : Ask) (good : GoodAsk ask) (differ : ask .source .0 ≡ ask .destination .0 → ⊥) where
   pub is-best-best : (chain : List ℕ) (r : ℕ) → IsBest p ask chain r ↔ Best (networkOf p ask) (goal ask) chain r
   is-best-best chain r = (
     λ b. record {

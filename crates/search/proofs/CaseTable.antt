@@ -20,6 +20,8 @@ use Rattle.plan.specs.Tables.{words, planOf, IsPlan}
 use Rattle.plan.specs.Verdict.{Verdict}
 use Rattle.plan.proofs.Tests.{valid-tells}
 use Rattle.plan.proofs.Verdicts.{tells-le, both, restated, true-holds}
+use Rattle.service.specs.Service.{Service, volume, leftsFrom, serviceOf, unused}
+use Rattle.service.proofs.ServiceLaws.{service-sound}
 use Rattle.timing.specs.Hop.{isBarred}
 use Rattle.walk.specs.Model.{goodAsk, limitBefore, roomOf, figuresOf}
 use Rattle.timing.specs.Model.{stepOver}
@@ -150,6 +152,10 @@ caseTable =
 abbrev planIn : Tables → Plan
 planIn t = planOf (t .contacts) (t .contact-count) (t .ranges) (t .range-count)
 
+-- as it serves an ask
+abbrev serviceIn : Tables → Service
+serviceIn t = serviceOf (planIn t) unused
+
 -- the test of lent tables, as a function that computes
 abbrev goodTables : Tables → Bool
 goodTables t = leb (t .contact-count * words) (length (t .contacts)) && leb (t .range-count * words) (length (t .ranges)) && isValid (planIn t)
@@ -162,8 +168,8 @@ goodTables-tells t =
 -- a row that the model answers
 by-model : (tables : Tables) (ask : Ask) (answer : Routed) (chain : List ℕ) → goodTables tables ≡ true → goodAsk ask ≡ true
     → eqb (ask .source .0) (ask .destination .0) ≡ false
-    → routeModel (planIn tables) ask ≡ answer
-    → ((before : List ℕ) → routeAfter (planIn tables) ask before ≡ chain ++ drop (length chain) before)
+    → routeModel (serviceIn tables) ask ≡ answer
+    → ((before : List ℕ) → routeAfter (serviceIn tables) ask before ≡ chain ++ drop (length chain) before)
     → Met (record { tables = tables; ask = ask; answer = answer; chain = chain })
 by-model tables ask answer chain t a apart e after = record {
   routes = λ before long.
@@ -171,11 +177,12 @@ by-model tables ask answer chain t a apart e after = record {
       let good = true-holds (goodAsk-tells ask) a in
       let differ = eqb-false (ask .source .0) (ask .destination .0) apart in
       routed long plan good differ
-      (subst₂ (RoutesPlan (planIn tables) ask before) e (after before) (route-model-routes (planIn tables) ask before (plan .valid) good differ));
+      (subst₂ (RoutesPlan (serviceIn tables) ask before) e (after before)
+      (route-model-routes (serviceIn tables) ask before (service-sound (planIn tables) (plan .valid) unused) good differ));
 }
 
 pub cases-hold : AllMet caseTable
-unfolding caseTable planOf isValid routeModel routeAfter networkOf delivery chosen figuresOf limitBefore roomOf stepOver isBarred lightOf mostNodes mostSize mostRate mostLight mostContacts mostRanges lastTime
+unfolding caseTable planOf serviceOf leftsFrom volume isValid routeModel routeAfter networkOf delivery chosen figuresOf limitBefore roomOf stepOver isBarred lightOf mostNodes mostSize mostRate mostLight mostContacts mostRanges lastTime
 cases-hold =
     more (by-model plan-AG _ _ _ refl refl refl refl (λ before. refl))
     (more (by-model plan-AG _ _ _ refl refl refl refl (λ before. refl))

@@ -10,10 +10,10 @@ use mathlib.Core.Path.{_≡_, refl, sym, ap, _∙_}
 use Prim.Native.Nat.{ℕ, _-_, _≤_}
 use native.Mathlib.Omega.{arith}
 use Rattle.units.specs.declared.Ask.{Ask}
-use Rattle.plan.specs.Plan.{Plan, Valid}
+use Rattle.service.specs.Service.{Service, Sound, contactOf}
 use Rattle.timing.specs.declared.arrival.Arrival.{Arrival}
 use Rattle.timing.specs.declared.arrival.Arrival.the-variants.{Ready, Never}
-use Rattle.timing.specs.Chain.{contactOf, Carries, stays, hops, Allowed}
+use Rattle.timing.specs.Chain.{Carries, stays, hops, Allowed}
 use Rattle.timing.specs.Hop.{pickArrival}
 use Rattle.timing.specs.Model.{deliveryOf}
 use Rattle.walk.specs.Walk.{GoodAsk}
@@ -32,14 +32,14 @@ free-hop true a s e = let z : _≡_ {A = ℕ} 0 1 = cc in absurd (omega arith)
 free-hop false (Ready x) s e = let q : x .0 ≡ s = cc in (refl, λ i. Ready (record { 0 = q i }))
 free-hop false Never s e = let z : _≡_ {A = ℕ} 0 1 = cc in absurd (omega arith)
 
-pub carries-runs : {p : Plan} {ask : Ask} {u t : ℕ} {chain : List ℕ} {v r : ℕ} → Carries p ask u t chain v r → Runs (networkOf p ask) (u - 1) t chain (v - 1) r
+pub carries-runs : {p : Service} {ask : Ask} {u t : ℕ} {chain : List ℕ} {v r : ℕ} → Carries p ask u t chain v r → Runs (networkOf p ask) (u - 1) t chain (v - 1) r
 unfolding barredHop networkOf
 carries-runs stays = Net.stays
 carries-runs {p} {ask} (hops {t} {s} {c} i from free hop run) =
     Net.hops {s = s} (in-plan-contact ask i) (ap (λ n. n - 1) from) (step-is p ask c t i ∙ rw (free, hop)) (carries-runs run)
 
 -- nodes are numbered from 1, so that a number less one loses nothing
-pub runs-carries : {p : Plan} (ask : Ask) → Valid p → {x t : ℕ} {chain : List ℕ} {y r : ℕ} → Runs (networkOf p ask) x t chain y r
+pub runs-carries : {p : Service} (ask : Ask) → Sound p → {x t : ℕ} {chain : List ℕ} {y r : ℕ} → Runs (networkOf p ask) x t chain y r
     → (u v : ℕ) → 1 ≤ u → 1 ≤ v → u - 1 ≡ x → v - 1 ≡ y → Carries p ask u t chain v r
 unfolding barredHop networkOf
 runs-carries ask valid Net.stays u v hu hv eu ev = let same : u ≡ v = omega arith in rw same stays
@@ -50,12 +50,12 @@ runs-carries {p} ask valid (Net.hops {t} {s} {c} i from step run) u v hu hv eu e
     hops {u = u} named (omega (arith, good .from-node .least)) (free .0) (free .1)
     (runs-carries ask valid run (contactOf p c .to .0) v (good .to-node .least) hv refl ev)
 
-pub carries-reaches : {p : Plan} {ask : Ask} {chain : List ℕ} {r : ℕ} → Carries p ask (ask .source .0) (ask .time .0) chain (ask .destination .0) r
+pub carries-reaches : {p : Service} {ask : Ask} {chain : List ℕ} {r : ℕ} → Carries p ask (ask .source .0) (ask .time .0) chain (ask .destination .0) r
     → Reaches (networkOf p ask) chain (goal ask) r
 unfolding networkOf
 carries-reaches run = carries-runs run
 
-module _ (p : Plan) (valid : Valid p) (ask : Ask) (good : GoodAsk ask) where
+module _ (p : Service) (valid : Sound p) (ask : Ask) (good : GoodAsk ask) where
   pub reaches-carries : {chain : List ℕ} {r : ℕ} → Reaches (networkOf p ask) chain (goal ask) r
       → Carries p ask (ask .source .0) (ask .time .0) chain (ask .destination .0) r
   unfolding networkOf

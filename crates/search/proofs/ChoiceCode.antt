@@ -17,8 +17,8 @@ use lib.Dec.{eqb, ltb}
 use lib.ListN.{length, getD}
 use Rattle.units.specs.Limits.{mostNodes}
 use Rattle.units.specs.declared.Ask.{Ask}
-use Rattle.plan.specs.Plan.{Plan, Each}
-use Rattle.timing.specs.Chain.{contactOf}
+use Rattle.plan.specs.Plan.{Each}
+use Rattle.service.specs.Service.{Service, contactOf}
 use Rattle.network.specs.Model.{behind, isWithin, leads, lowestFrom, lowest}
 use Rattle.network.specs.Network.{When, at, never, Network}
 use Rattle.layers.specs.Bridge.{networkOf}
@@ -55,7 +55,7 @@ within-word w limit hw hl = go (decLe neverWord w)
     go (yes l) = rw (when-never w (omega arith), le-ltb w limit (omega arith))
     go (no l) = rw (when-below w (omega arith))
 
-module _ (p : Plan) (ask : Ask) (words : List ℕ) (k v limit c from to : ℕ) (ends : AreEnds p c from to) where
+module _ (p : Service) (ask : Ask) (words : List ℕ) (k v limit c from to : ℕ) (ends : AreEnds p c from to) where
   pub leads-elsewhere : (to ≡ v → ⊥) → false ≡ leads (networkOf p ask) (layerOf words k) v limit c
   unfolding leads networkOf
   leads-elsewhere h = rw (← (ends .to-is), ne-eqb to v h)

@@ -13,8 +13,7 @@ use native.Mathlib.Omega.{arith}
 use lib.ListN.{length, getD, take, drop, set, length-set, take-append-drop}
 use lib.Seq.{drop-cons, drop-set-lt, drop-set-add, set-split}
 use Rattle.units.specs.declared.Ask.{Ask}
-use Rattle.plan.specs.Plan.{Plan}
-use Rattle.timing.specs.Chain.{contactOf, InPlan}
+use Rattle.service.specs.Service.{Service, contactOf, InPlan}
 use Rattle.timing.specs.Hop.{isBarred}
 use Rattle.walk.specs.Model.{limitOver}
 use Rattle.network.specs.Model.{behind, layer, delivery, fewest, lowest, workedBack, chosen}
@@ -89,7 +88,7 @@ module _ (N : Network) (L : Laws N) (entry : List ℕ) (count g r : ℕ) where
       let chosen-is : chosen N g r ≡ take count chain = w .worked ∙ rw (done, all) in
       sym (ap (λ (l : List ℕ). l ++ drop count entry) chosen-is ∙ ap (λ (l : List ℕ). take count chain ++ l) (sym (w .after)) ∙ take-append-drop count chain)
 
-module _ (p : Plan) (ask : Ask) (before : List When) (v limit c : ℕ) (leads : Leads (networkOf p ask) before v limit c) where
+module _ (p : Service) (ask : Ask) (before : List When) (v limit c : ℕ) (leads : Leads (networkOf p ask) before v limit c) where
   pub lead-named : InPlan p c
   lead-named = contact-in-plan ask (leads .is-contact)
 
@@ -110,7 +109,7 @@ module _ (p : Plan) (ask : Ask) (before : List When) (v limit c : ℕ) (leads : 
       go false e = rw e
 
 -- the contact that the code found, held against the network's layers
-module _ (p : Plan) (ask : Ask) (L : Laws (networkOf p ask)) (entry chain words : List ℕ) (count g r k v limit c : ℕ) (h : 0 < k)
+module _ (p : Service) (ask : Ask) (L : Laws (networkOf p ask)) (entry chain words : List ℕ) (count g r k v limit c : ℕ) (h : 0 < k)
     (w : Working (networkOf p ask) entry chain count g r k v limit) (rows : (j : ℕ) → j ≤ count → layerOf words j ≡ layer (networkOf p ask) j)
     (found : c ≡ lowest (networkOf p ask) (layerOf words (k - 1)) v limit) where
   pub found-lowest : c ≡ lowest (networkOf p ask) (layer (networkOf p ask) (k - 1)) v limit

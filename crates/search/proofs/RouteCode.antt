@@ -2,6 +2,7 @@
 --     delivered-is      the word of the destination in the last row says the delivery
 --     route-none, route-late, route-best      the answer, by the tests in their order
 --     count-is          the first row that has that word is the fewest contacts
+--     route-serves      the answer over the pairs that `serve` filled
 --     chain-named, chain-some, chain-front      the chain chosen: its numbers name contacts, it has some, and it stands in front
 -- Assumes nothing.
 use mathlib.Core.List.{List, _++_}
@@ -16,9 +17,10 @@ use lib.Seq.{take-at}
 use Rattle.units.specs.declared.Ask.{Ask}
 use Rattle.units.specs.declared.Refusal.the-variants.{NoChain, TooLate}
 use Rattle.units.specs.Limits.{lastTime, mostLight, mostNodes, mostChain}
-use Rattle.plan.specs.Plan.{Plan, Each, Valid}
+use Rattle.plan.specs.Plan.{Each}
+use Rattle.service.specs.Service.{Service, Sound, InPlan}
 use Rattle.walk.specs.declared.figures.Figures.{Figures}
-use Rattle.timing.specs.Chain.{Allowed, InPlan}
+use Rattle.timing.specs.Chain.{Allowed}
 use Rattle.walk.specs.Model.{figuresOf}
 use Rattle.walk.specs.Walk.{GoodAsk}
 use Rattle.walk.proofs.LastCallCode.{carries-named}
@@ -26,6 +28,7 @@ use Rattle.network.specs.Model.{layer, earliest, delivery, fewest, chosen}
 use Rattle.network.specs.Network.{When, at, never, Network}
 use Rattle.network.proofs.Theorems.{chosen-best, fewest-is, fewest-length}
 use Rattle.layers.specs.Bridge.{networkOf}
+use Rattle.search.specs.declared.answer.Routed.{Routed}
 use Rattle.search.specs.declared.answer.Routed.the-variants.{Best, Refused}
 use Rattle.layers.specs.Bridge.{goal}
 use Rattle.search.specs.Model.{chainOf, answerOf, chainAfter, routeModel, routeAfter}
@@ -41,7 +44,7 @@ row-inside N words last k f h =
     let fewer : k + 1 ≤ mostNodes = omega (arith, f .most) in
     subst (λ (n : ℕ). (k + 1) * mostNodes ≤ n) (sym (f .long)) (mul-le-mul-right mostNodes fewer)
 
-module _ (p : Plan) (valid : Valid p) (ask : Ask) (good : GoodAsk ask) (differ : ask .source .0 ≡ ask .destination .0 → ⊥) (words : List ℕ) (last : ℕ)
+module _ (p : Service) (valid : Sound p) (ask : Ask) (good : GoodAsk ask) (differ : ask .source .0 ≡ ask .destination .0 → ⊥) (words : List ℕ) (last : ℕ)
     (filled : Filled (networkOf p ask) words last) where
   abbrev N : Network
   N = networkOf p ask
@@ -129,3 +132,8 @@ module _ (p : Plan) (valid : Valid p) (ask : Ask) (good : GoodAsk ask) (differ :
             rw (delivered-at, lt-ltb d (ask .deadline .0) h, ef, chain-front, chain-long),
             written ∙ rw (delivered-at, lt-ltb d (ask .deadline .0) h, chain-long),
           )
+
+-- the answer over a service that is the plan's
+pub route-serves : (s p : Service) (ask : Ask) (entry exit : List ℕ) (r : Routed) → s ≡ p → (r ≡ routeModel s ask) × (exit ≡ routeAfter s ask entry)
+    → (r ≡ routeModel p ask) × (exit ≡ routeAfter p ask entry)
+route-serves s p ask entry exit r e h = (h .0 ∙ ap (λ (q : Service). routeModel q ask) e, h .1 ∙ ap (λ (q : Service). routeAfter q ask entry) e)

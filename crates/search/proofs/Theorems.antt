@@ -22,11 +22,12 @@ use lib.Seq.{take-at}
 use Rattle.units.specs.Limits.{mostChain}
 use Rattle.units.specs.declared.Ask.{Ask}
 use Rattle.units.specs.declared.Refusal.the-variants.{NoChain, TooLate}
-use Rattle.plan.specs.Plan.{Plan, Valid}
 use Rattle.plan.specs.Verdict.{Verdict, holds, fails}
 use Rattle.plan.proofs.Verdicts.{tells-lt}
+use Rattle.service.specs.Service.{Service, Sound, unused}
 use Rattle.walk.specs.declared.figures.Figures.{Figures}
 use Rattle.walk.specs.declared.figures.Walked.the-variants.{Carried}
+use Rattle.service.proofs.ServiceLaws.{service-sound}
 use Rattle.timing.specs.Chain.{Allowed}
 use Rattle.walk.specs.Figures.{HasFigures}
 use Rattle.walk.specs.Model.{figuresOf}
@@ -49,17 +50,17 @@ use Rattle.search.proofs.Chains.{allowed-reaches}
 use Rattle.layers.proofs.NetworkLaws.{network-laws, goal-node, goal-apart}
 
 -- what an answer with a chain says, of the chain that stands in the first n places afterwards
-record Returned (p : Plan) (ask : Ask) (f : Figures) (n : ℕ) (chain : List ℕ) : Type 0 where
+record Returned (p : Service) (ask : Ask) (f : Figures) (n : ℕ) (chain : List ℕ) : Type 0 where
   is-best : IsBest p ask chain (f .delivery .0)
   figures : HasFigures p ask chain f
   count : length chain ≡ n
 
-returned : {p : Plan} {ask : Ask} {before : List ℕ} {f : Figures} {n : ℕ} {after : List ℕ} → RoutesPlan p ask before (Best f n) after
+returned : {p : Service} {ask : Ask} {before : List ℕ} {f : Figures} {n : ℕ} {after : List ℕ} → RoutesPlan p ask before (Best f n) after
     → Returned p ask f n (take n after)
 returned {before} (best {chain} b h) =
     rw (take-at chain (drop (length chain) before) (length chain) refl) (record { is-best = b; figures = h; count = refl })
 
-module _ {p : Plan} {ask : Ask} {before : List ℕ} {f : Figures} {n : ℕ} {after : List ℕ} where
+module _ {p : Service} {ask : Ask} {before : List ℕ} {f : Figures} {n : ℕ} {after : List ℕ} where
   pub route-allowed-in-time : RoutesPlan p ask before (Best f n) after → Allowed p ask (take n after) (f .delivery .0) × (f .delivery .0 < ask .deadline .0)
   route-allowed-in-time h = (returned h .is-best .allowed, returned h .figures .in-time)
 
@@ -73,13 +74,13 @@ module _ {p : Plan} {ask : Ask} {before : List ℕ} {f : Figures} {n : ℕ} {aft
       → (take n after ≡ other) ⊎ LowerBack (take n after) other
   route-ties h other a e = returned h .is-best .lowest other a (e ∙ sym (returned h .count))
 
-  pub route-short : Valid p → GoodAsk ask → (ask .source .0 ≡ ask .destination .0 → ⊥) → RoutesPlan p ask before (Best f n) after → n ≤ mostChain
+  pub route-short : Sound p → GoodAsk ask → (ask .source .0 ≡ ask .destination .0 → ⊥) → RoutesPlan p ask before (Best f n) after → n ≤ mostChain
   route-short valid good differ h = omega (arith, is-best-short p valid ask good differ (returned h .is-best), returned h .count)
 
   pub route-walks : RoutesPlan p ask before (Best f n) after → WalksPlan p ask (take n after) (Carried f)
   route-walks h = carried (returned h .figures)
 
-module _ {p : Plan} {ask : Ask} {before : List ℕ} where
+module _ {p : Service} {ask : Ask} {before : List ℕ} where
   pub refused-13-exactly : {r : Routed} {after : List ℕ} → RoutesPlan p ask before r after
       → (r ≡ Refused NoChain) ↔ ((chain : List ℕ) (s : ℕ) → Allowed p ask chain s → ⊥)
   refused-13-exactly (no-chain n) = (λ e. n, λ h. refl)
@@ -143,9 +144,9 @@ module _ {contacts : List ℕ} {m : ℕ} {ranges : List ℕ} {n : ℕ} {ask : As
   routes-walks (routed l p g d r) = walked p g d (route-walks r)
 
   pub routes-short : {f : Figures} {k : ℕ} {after : List ℕ} → Routes contacts m ranges n ask before (Best f k) after → k ≤ mostChain
-  routes-short (routed l p g d r) = route-short (p .valid) g d r
+  routes-short (routed l p g d r) = route-short (service-sound _ (p .valid) unused) g d r
 
-module _ (p : Plan) (ask : Ask) (before : List ℕ) (valid : Valid p) (good : GoodAsk ask) (differ : ask .source .0 ≡ ask .destination .0 → ⊥) where
+module _ (p : Service) (ask : Ask) (before : List ℕ) (valid : Sound p) (good : GoodAsk ask) (differ : ask .source .0 ≡ ask .destination .0 → ⊥) where
   -- the figures that the model works out are those of a walk
   figures-in-time : (chain : List ℕ) (r : ℕ) → Allowed p ask chain r → r < ask .deadline .0 → HasFigures p ask chain (figuresOf p ask chain r)
   figures-in-time chain r a h =

@@ -8,8 +8,8 @@ use lib.ListN.{length, drop}
 use Rattle.units.specs.Limits.{mostChain}
 use Rattle.units.specs.declared.Ask.{Ask}
 use Rattle.units.specs.declared.Refusal.the-variants.{NoPlan, AskValue, SameNode, NoChain, TooLate, ShortChain}
-use Rattle.plan.specs.Plan.{Plan}
 use Rattle.plan.specs.Tables.{IsPlan, planOf}
+use Rattle.service.specs.Service.{Service, serviceOf, unused}
 use Rattle.walk.specs.declared.figures.Figures.{Figures}
 use Rattle.timing.specs.Chain.{Allowed}
 use Rattle.walk.specs.Figures.{HasFigures}
@@ -19,15 +19,15 @@ use Rattle.search.specs.declared.answer.Routed.{Routed}
 use Rattle.search.specs.declared.answer.Routed.the-variants.{Best, Refused}
 
 -- the chain is the best for the ask, among allowed chains of any length, and r is its delivery
-pub record IsBest (p : Plan) (ask : Ask) (chain : List ℕ) (r : ℕ) : Type 0 where
+pub record IsBest (p : Service) (ask : Ask) (chain : List ℕ) (r : ℕ) : Type 0 where
   pub allowed : Allowed p ask chain r
   pub none-earlier : (other : List ℕ) (s : ℕ) → Allowed p ask other s → r ≤ s
   pub none-shorter : (other : List ℕ) → Allowed p ask other r → length chain ≤ length other
   -- read from the last contact back, the lower contact number at the first difference
   pub lowest : (other : List ℕ) → Allowed p ask other r → length other ≡ length chain → (chain ≡ other) ⊎ LowerBack chain other
 
--- the answer for a valid plan and a good ask between two nodes; `before` is what the lent chain holds before the call, the last list what it holds after
-pub data RoutesPlan (p : Plan) (ask : Ask) (before : List ℕ) : Routed → List ℕ → Type 0 where
+-- the answer for a valid plan, as it serves the ask, and a good ask between two nodes; `before` is what the lent chain holds before the call, the last list what it holds after
+pub data RoutesPlan (p : Service) (ask : Ask) (before : List ℕ) : Routed → List ℕ → Type 0 where
   -- no allowed chain at all
   no-chain : ((chain : List ℕ) (r : ℕ) → Allowed p ask chain r → ⊥) → RoutesPlan p ask before (Refused NoChain) before
   -- allowed, but not in time
@@ -45,4 +45,4 @@ pub data Routes (contacts : List ℕ) (m : ℕ) (ranges : List ℕ) (n : ℕ) (a
   same-node : mostChain ≤ length before → IsPlan contacts m ranges n → GoodAsk ask → ask .source .0 ≡ ask .destination .0
       → Routes contacts m ranges n ask before (Refused SameNode) before
   routed : {r : Routed} {after : List ℕ} → mostChain ≤ length before → IsPlan contacts m ranges n → GoodAsk ask
-      → (ask .source .0 ≡ ask .destination .0 → ⊥) → RoutesPlan (planOf contacts m ranges n) ask before r after → Routes contacts m ranges n ask before r after
+      → (ask .source .0 ≡ ask .destination .0 → ⊥) → RoutesPlan (serviceOf (planOf contacts m ranges n) unused) ask before r after → Routes contacts m ranges n ask before r after

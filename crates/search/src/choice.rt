@@ -13,8 +13,8 @@ ghost use Prim.Native.Nat.{ℕ, _+_, _*_, _≤_, _<_};
 ghost use lib.ListN.{length, drop, getD};
 ghost use Rattle.units.specs.Limits.{lastTime, mostLight, mostNodes};
 ghost use Rattle.plan.specs.Plan.{Each};
-ghost use Rattle.plan.specs.Tables.{IsPlan, planOf};
-ghost use Rattle.timing.specs.Chain.{InPlan};
+ghost use Rattle.service.specs.Service.{InPlan};
+ghost use Rattle.service.specs.Tables.{served, IsService};
 ghost use Rattle.walk.specs.Walk.{GoodAsk};
 ghost use Rattle.network.specs.Model.{layer, delivery, fewest, leads, lowest};
 ghost use Rattle.network.specs.Network.{at};
@@ -42,8 +42,7 @@ pub fn first_row(words: &[u64], last: usize, v: usize, word: u64) -> usize
 fn is_leading(
     contacts: &[u64],
     contact_count: usize,
-    ranges: &[u64],
-    range_count: usize,
+    pairs: &[u64],
     ask: Ask,
     words: &[u64],
     k: usize,
@@ -51,50 +50,38 @@ fn is_leading(
     limit: u64,
     no: ContactNo,
 ) -> bool
-    requires { ⌜ IsPlan (now contacts) «contact_count» (now ranges) «range_count» × GoodAsk ask × InPlan (planOf (now contacts) «contact_count» (now ranges) «range_count») (no .0) × Each TimeWord (now words) × ((k + 1) * mostNodes ≤ length (now words)) ⌝ }
-    ensures { λ t. ⌜ t ≡ leads (networkOf (planOf (now (contacts .entry)) «contact_count» (now (ranges .entry)) «range_count») ask) (layerOf (now (words .entry)) k) v limit (no .0) ⌝ }
+    requires { ⌜ IsService (now contacts) «contact_count» (now pairs) × GoodAsk ask × InPlan (served (now contacts) «contact_count» (now pairs)) (no .0) × Each TimeWord (now words) × ((k + 1) * mostNodes ≤ length (now words)) ⌝ }
+    ensures { λ t. ⌜ t ≡ leads (networkOf (served (now (contacts .entry)) «contact_count» (now (pairs .entry))) ask) (layerOf (now (words .entry)) k) v limit (no .0) ⌝ }
 {
-    let ends = ends_of(contacts, contact_count, ranges, range_count, no);
+    let ends = ends_of(contacts, contact_count, pairs, no);
     let from = ends.from;
     let to = ends.to;
     if to != v {
         return false;
     }
     let ready = get(words, k, from);
-    arrive(contacts, contact_count, ranges, range_count, ask, no, ready) < limit
+    arrive(contacts, contact_count, pairs, ask, no, ready) < limit
 }
 
 // The lowest contact that leads there, or 0.
 fn lowest_leading(
     contacts: &[u64],
     contact_count: usize,
-    ranges: &[u64],
-    range_count: usize,
+    pairs: &[u64],
     ask: Ask,
     words: &[u64],
     k: usize,
     v: usize,
     limit: u64,
 ) -> ContactNo
-    requires { ⌜ IsPlan (now contacts) «contact_count» (now ranges) «range_count» × GoodAsk ask × Each TimeWord (now words) × ((k + 1) * mostNodes ≤ length (now words)) ⌝ }
-    ensures { λ r. ⌜ r .0 ≡ lowest (networkOf (planOf (now (contacts .entry)) «contact_count» (now (ranges .entry)) «range_count») ask) (layerOf (now (words .entry)) k) v limit ⌝ }
+    requires { ⌜ IsService (now contacts) «contact_count» (now pairs) × GoodAsk ask × Each TimeWord (now words) × ((k + 1) * mostNodes ≤ length (now words)) ⌝ }
+    ensures { λ r. ⌜ r .0 ≡ lowest (networkOf (served (now (contacts .entry)) «contact_count» (now (pairs .entry))) ask) (layerOf (now (words .entry)) k) v limit ⌝ }
 {
     let mut tried: usize = 0;
     while tried < contact_count {
         tried += 1;
         let no = ContactNo(tried as u64);
-        if is_leading(
-            contacts,
-            contact_count,
-            ranges,
-            range_count,
-            ask,
-            words,
-            k,
-            v,
-            limit,
-            no,
-        ) {
+        if is_leading(contacts, contact_count, pairs, ask, words, k, v, limit, no) {
             return no;
         }
     }
@@ -105,36 +92,25 @@ fn lowest_leading(
 pub fn choose(
     contacts: &[u64],
     contact_count: usize,
-    ranges: &[u64],
-    range_count: usize,
+    pairs: &[u64],
     ask: Ask,
     words: &[u64],
     count: usize,
     delivered: u64,
     chain: &mut [u64],
 )
-    requires { ⌜ IsPlan (now contacts) «contact_count» (now ranges) «range_count» × GoodAsk ask × Each TimeWord (now words) × ((count + 1) * mostNodes ≤ length (now words)) ⌝ }
-    requires { ⌜ ((j : ℕ) → j ≤ count → layerOf (now words) j ≡ layer (networkOf (planOf (now contacts) «contact_count» (now ranges) «range_count») ask) j) × (delivery (networkOf (planOf (now contacts) «contact_count» (now ranges) «range_count») ask) (goal ask) ≡ at delivered) × (count ≡ fewest (networkOf (planOf (now contacts) «contact_count» (now ranges) «range_count») ask) (goal ask)) × (count ≤ length (now chain)) × (delivered ≤ lastTime + mostLight) ⌝ }
-    ensures { λ _. ⌜ now (chain .exit) ≡ chainOf (planOf (now (contacts .entry)) «contact_count» (now (ranges .entry)) «range_count») ask delivered ++ drop count (now (chain .entry)) ⌝ }
+    requires { ⌜ IsService (now contacts) «contact_count» (now pairs) × GoodAsk ask × Each TimeWord (now words) × ((count + 1) * mostNodes ≤ length (now words)) ⌝ }
+    requires { ⌜ ((j : ℕ) → j ≤ count → layerOf (now words) j ≡ layer (networkOf (served (now contacts) «contact_count» (now pairs)) ask) j) × (delivery (networkOf (served (now contacts) «contact_count» (now pairs)) ask) (goal ask) ≡ at delivered) × (count ≡ fewest (networkOf (served (now contacts) «contact_count» (now pairs)) ask) (goal ask)) × (count ≤ length (now chain)) × (delivered ≤ lastTime + mostLight) ⌝ }
+    ensures { λ _. ⌜ now (chain .exit) ≡ chainOf (served (now (contacts .entry)) «contact_count» (now (pairs .entry))) ask delivered ++ drop count (now (chain .entry)) ⌝ }
 {
     let mut k = count;
     let mut v = (ask.destination.0 - 1) as usize;
     let mut limit = Millis(delivered + 1);
     while 0 < k {
         k -= 1;
-        let no = lowest_leading(
-            contacts,
-            contact_count,
-            ranges,
-            range_count,
-            ask,
-            words,
-            k,
-            v,
-            limit.0,
-        );
+        let no = lowest_leading(contacts, contact_count, pairs, ask, words, k, v, limit.0);
         chain[k] = no.0;
-        limit = back_over(contacts, contact_count, ranges, range_count, ask, no, limit);
-        v = ends_of(contacts, contact_count, ranges, range_count, no).from;
+        limit = back_over(contacts, contact_count, pairs, ask, no, limit);
+        v = ends_of(contacts, contact_count, pairs, no).from;
     }
 }

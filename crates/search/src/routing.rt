@@ -6,6 +6,8 @@ use layers::NEVER;
 use layers::fill;
 use layers::get;
 use plan::is_plan;
+use service::PAIRS;
+use service::serve;
 use units::Ask;
 use units::MOST_CHAIN;
 use units::Millis;
@@ -13,29 +15,30 @@ use units::Refusal;
 use walk::figures_of;
 use walk::is_good_ask;
 ghost use mathlib.Core.Path.{_≡_};
-ghost use Prim.Native.Nat.{_≤_};
+ghost use Prim.Native.Nat.{_*_, _≤_};
 ghost use lib.ListN.{length};
-ghost use Rattle.units.specs.Limits.{mostChain};
+ghost use Rattle.units.specs.Limits.{mostContacts, mostChain};
 ghost use Rattle.plan.specs.Tables.{IsPlan, planOf};
+ghost use Rattle.service.specs.Service.{serviceOf, unused};
+ghost use Rattle.service.specs.Tables.{pairWords, served, IsService};
 ghost use Rattle.walk.specs.Walk.{GoodAsk};
 ghost use Rattle.search.specs.Model.{routeModel, routeAfter};
 ghost use Rattle.search.specs.Route.{Routes};
 ghost use Rattle.layers.specs.Words.{blankWords};
 
-// The answer for a valid plan and a good ask between two nodes, worked out in lent words.
+// The answer for a plan as it serves the ask, and a good ask between two nodes, worked out in lent words.
 fn route_in(
     contacts: &[u64],
     contact_count: usize,
-    ranges: &[u64],
-    range_count: usize,
+    pairs: &[u64],
     ask: Ask,
     words: &mut [u64],
     chain: &mut [u64],
 ) -> Routed
-    requires { ⌜ IsPlan (now contacts) «contact_count» (now ranges) «range_count» × GoodAsk ask × (ask .source .0 ≡ ask .destination .0 → ⊥) × (now words ≡ blankWords) × (mostChain ≤ length (now chain)) ⌝ }
-    ensures { λ r. ⌜ (r ≡ routeModel (planOf (now (contacts .entry)) «contact_count» (now (ranges .entry)) «range_count») ask) × (now (chain .exit) ≡ routeAfter (planOf (now (contacts .entry)) «contact_count» (now (ranges .entry)) «range_count») ask (now (chain .entry))) ⌝ }
+    requires { ⌜ IsService (now contacts) «contact_count» (now pairs) × GoodAsk ask × (ask .source .0 ≡ ask .destination .0 → ⊥) × (now words ≡ blankWords) × (mostChain ≤ length (now chain)) ⌝ }
+    ensures { λ r. ⌜ (r ≡ routeModel (served (now (contacts .entry)) «contact_count» (now (pairs .entry))) ask) × (now (chain .exit) ≡ routeAfter (served (now (contacts .entry)) «contact_count» (now (pairs .entry))) ask (now (chain .entry))) ⌝ }
 {
-    let last = fill(contacts, contact_count, ranges, range_count, ask, words);
+    let last = fill(contacts, contact_count, pairs, ask, words);
     let goal = (ask.destination.0 - 1) as usize;
     let delivered = get(words, last, goal);
     if delivered == NEVER {
@@ -48,8 +51,7 @@ fn route_in(
     choose(
         contacts,
         contact_count,
-        ranges,
-        range_count,
+        pairs,
         ask,
         words,
         count,
@@ -59,8 +61,7 @@ fn route_in(
     let figures = figures_of(
         contacts,
         contact_count,
-        ranges,
-        range_count,
+        pairs,
         ask,
         &chain[..count],
         Millis(delivered),
@@ -69,6 +70,39 @@ fn route_in(
 }
 
 // The same, with the words of 64 layers of 64 nodes on the stack.
+fn route_served(
+    contacts: &[u64],
+    contact_count: usize,
+    pairs: &[u64],
+    ask: Ask,
+    chain: &mut [u64],
+) -> Routed
+    requires { ⌜ IsService (now contacts) «contact_count» (now pairs) × GoodAsk ask × (ask .source .0 ≡ ask .destination .0 → ⊥) × (mostChain ≤ length (now chain)) ⌝ }
+    ensures { λ r. ⌜ (r ≡ routeModel (served (now (contacts .entry)) «contact_count» (now (pairs .entry))) ask) × (now (chain .exit) ≡ routeAfter (served (now (contacts .entry)) «contact_count» (now (pairs .entry))) ask (now (chain .entry))) ⌝ }
+{
+    let mut words = [NEVER; 4096];
+    route_in(contacts, contact_count, pairs, ask, &mut words, chain)
+}
+
+// The answer for a valid plan and a good ask between two nodes, by way of a table of light times and of
+// what is left.
+fn route_through(
+    contacts: &[u64],
+    contact_count: usize,
+    ranges: &[u64],
+    range_count: usize,
+    ask: Ask,
+    pairs: &mut [u64],
+    chain: &mut [u64],
+) -> Routed
+    requires { ⌜ IsPlan (now contacts) «contact_count» (now ranges) «range_count» × GoodAsk ask × (ask .source .0 ≡ ask .destination .0 → ⊥) × (mostContacts * pairWords ≤ length (now pairs)) × (mostChain ≤ length (now chain)) ⌝ }
+    ensures { λ r. ⌜ (r ≡ routeModel (serviceOf (planOf (now (contacts .entry)) «contact_count» (now (ranges .entry)) «range_count») unused) ask) × (now (chain .exit) ≡ routeAfter (serviceOf (planOf (now (contacts .entry)) «contact_count» (now (ranges .entry)) «range_count») unused) ask (now (chain .entry))) ⌝ }
+{
+    serve(contacts, contact_count, ranges, range_count, pairs);
+    route_served(contacts, contact_count, pairs, ask, chain)
+}
+
+// The same, with that table on the stack.
 fn route_plan(
     contacts: &[u64],
     contact_count: usize,
@@ -78,16 +112,16 @@ fn route_plan(
     chain: &mut [u64],
 ) -> Routed
     requires { ⌜ IsPlan (now contacts) «contact_count» (now ranges) «range_count» × GoodAsk ask × (ask .source .0 ≡ ask .destination .0 → ⊥) × (mostChain ≤ length (now chain)) ⌝ }
-    ensures { λ r. ⌜ (r ≡ routeModel (planOf (now (contacts .entry)) «contact_count» (now (ranges .entry)) «range_count») ask) × (now (chain .exit) ≡ routeAfter (planOf (now (contacts .entry)) «contact_count» (now (ranges .entry)) «range_count») ask (now (chain .entry))) ⌝ }
+    ensures { λ r. ⌜ (r ≡ routeModel (serviceOf (planOf (now (contacts .entry)) «contact_count» (now (ranges .entry)) «range_count») unused) ask) × (now (chain .exit) ≡ routeAfter (serviceOf (planOf (now (contacts .entry)) «contact_count» (now (ranges .entry)) «range_count») unused) ask (now (chain .entry))) ⌝ }
 {
-    let mut words = [NEVER; 4096];
-    route_in(
+    let mut pairs = [0u64; PAIRS];
+    route_through(
         contacts,
         contact_count,
         ranges,
         range_count,
         ask,
-        &mut words,
+        &mut pairs,
         chain,
     )
 }

@@ -1,5 +1,5 @@
 -- What the loop along a chain knows of the model.
---     contact-lent      a contact of the plan stands in its row of the lent table
+--     contact-lent, light-lent, left-lent      what the lent tables hold for a contact of the plan
 --     named-in-plan, named-at-most, named-good      a number from 1 to the count names a contact of the plan, and a good one
 --     goes-not-least, goes-not-most, goes-by        whether it goes on, by the tests in their order
 --     goes-in-plan, steps-in-plan      a number that goes on names a contact of the plan
@@ -23,64 +23,82 @@ use Rattle.units.specs.Limits.{lastTime, mostLight}
 use Rattle.units.specs.declared.Ask.{Ask}
 use Rattle.units.specs.declared.Millis.{Millis}
 use Rattle.plan.specs.declared.light.Light.{Light}
-use Rattle.plan.specs.Light.{lightOf}
+use Rattle.plan.specs.declared.light.Light.the-variants.{Unranged}
 use Rattle.plan.specs.declared.rows.Contact.{Contact}
-use Rattle.plan.specs.Plan.{Plan, GoodContact, Valid}
-use Rattle.plan.specs.Tables.{contactAt, rangeAt, rowsFrom, planOf, IsPlan}
-use Rattle.plan.proofs.Lent.{length-contacts}
-use Rattle.plan.proofs.RowList.{getD-rows}
+use Rattle.plan.specs.Plan.{GoodContact}
+use Rattle.plan.specs.Tables.{contactAt}
+use Rattle.plan.proofs.RowList.{length-rows, getD-rows}
+use Rattle.service.specs.Service.{Service, Sound, LightGood, blank, contactOf, lightIn, leftIn, InPlan}
+use Rattle.service.specs.Tables.{lightAt, leftAt, served, IsService}
 use Rattle.timing.specs.declared.arrival.Arrival.{Arrival}
 use Rattle.timing.specs.declared.arrival.Arrival.the-variants.{Ready, Never}
-use Rattle.timing.specs.Chain.{blank, contactOf, InPlan}
 use Rattle.timing.specs.Hop.{hopped, isBarred, pickArrival}
 use Rattle.timing.specs.Model.{goesOn, overContact, stepOver, onward, carry}
 use Rattle.timing.proofs.Bounded.{light-good, contact-good}
 use Rattle.timing.proofs.HopLaws.{hop-bounded}
 
-pub contact-lent : (contacts : List ℕ) (m : ℕ) (ranges : List ℕ) (n c : ℕ) → InPlan (planOf contacts m ranges n) c
-    → contactOf (planOf contacts m ranges n) c ≡ contactAt contacts (c - 1)
-unfolding planOf
-contact-lent contacts m ranges n c i =
-    let h : c - 1 < m = omega (arith, i .least, i .most, length-contacts contacts m ranges n) in
-    getD-rows (contactAt contacts) 0 m (c - 1) blank h ∙ ap (contactAt contacts) (zero-add (c - 1))
+module _ (contacts : List ℕ) (m : ℕ) (pairs : List ℕ) where
+  pub length-served : length (served contacts m pairs .contacts) ≡ m
+  unfolding served
+  length-served = length-rows (contactAt contacts) 0 m
 
-module _ (contacts : List ℕ) (m : ℕ) (ranges : List ℕ) (n c : ℕ) where
-  pub named-in-plan : 1 ≤ c → c ≤ m → InPlan (planOf contacts m ranges n) c
-  named-in-plan least most = record { least = least; most = subst (λ (k : ℕ). c ≤ k) (sym (length-contacts contacts m ranges n)) most }
+  module _ (c : ℕ) (i : InPlan (served contacts m pairs) c) where
+    named-below : c - 1 < m
+    named-below = omega (arith, i .least, i .most, length-served)
 
-  pub named-at-most : InPlan (planOf contacts m ranges n) c → c ≤ m
-  named-at-most i = subst (λ (k : ℕ). c ≤ k) (length-contacts contacts m ranges n) (i .most)
+    pub contact-lent : contactOf (served contacts m pairs) c ≡ contactAt contacts (c - 1)
+    unfolding served
+    contact-lent = getD-rows (contactAt contacts) 0 m (c - 1) blank named-below ∙ ap (contactAt contacts) (zero-add (c - 1))
 
-  pub named-good : IsPlan contacts m ranges n → InPlan (planOf contacts m ranges n) c → GoodContact (contactAt contacts (c - 1))
-  named-good plan i = subst GoodContact (contact-lent contacts m ranges n c i) (contact-good (planOf contacts m ranges n) (plan .valid) c i)
+    pub light-lent : lightIn (served contacts m pairs) c ≡ lightAt pairs (c - 1)
+    unfolding served
+    light-lent = getD-rows (lightAt pairs) 0 m (c - 1) Unranged named-below ∙ ap (lightAt pairs) (zero-add (c - 1))
+
+    pub left-lent : leftIn (served contacts m pairs) c ≡ leftAt pairs (c - 1)
+    unfolding served
+    left-lent = getD-rows (leftAt pairs) 0 m (c - 1) 0 named-below ∙ ap (leftAt pairs) (zero-add (c - 1))
+
+module _ (contacts : List ℕ) (m : ℕ) (pairs : List ℕ) (c : ℕ) where
+  pub named-in-plan : 1 ≤ c → c ≤ m → InPlan (served contacts m pairs) c
+  named-in-plan least most = record { least = least; most = subst (λ (k : ℕ). c ≤ k) (sym (length-served contacts m pairs)) most }
+
+  pub named-at-most : InPlan (served contacts m pairs) c → c ≤ m
+  named-at-most i = subst (λ (k : ℕ). c ≤ k) (length-served contacts m pairs) (i .most)
+
+  pub named-good : IsService contacts m pairs → InPlan (served contacts m pairs) c → GoodContact (contactAt contacts (c - 1))
+  named-good plan i = subst GoodContact (contact-lent contacts m pairs c i) (contact-good (served contacts m pairs) (plan .sound) c i)
+
+  pub light-named : IsService contacts m pairs → InPlan (served contacts m pairs) c → LightGood (lightAt pairs (c - 1))
+  light-named plan i = subst LightGood (light-lent contacts m pairs c i) (light-good (served contacts m pairs) (plan .sound) c i)
 
   -- a hop over the contact that stands in the row is a hop over the contact of the plan
-  pub over-lent : InPlan (planOf contacts m ranges n) c → (ask : Ask) (t : ℕ) (x : Contact) (l : Light) (a : Arrival)
-      → x ≡ contactAt contacts (c - 1) → l ≡ lightOf (rowsFrom (rangeAt ranges) 0 n) x → a ≡ hopped l x (ask .size) t
-      → a ≡ overContact (planOf contacts m ranges n) ask c t
-  unfolding overContact planOf
-  over-lent i ask t x l a ex el ea =
+  pub over-lent : InPlan (served contacts m pairs) c → (ask : Ask) (t : ℕ) (x : Contact) (l : Light) (left : ℕ) (a : Arrival)
+      → x ≡ contactAt contacts (c - 1) → l ≡ lightAt pairs (c - 1) → left ≡ leftAt pairs (c - 1) → a ≡ hopped l left x (ask .size) t
+      → a ≡ overContact (served contacts m pairs) ask c t
+  unfolding overContact
+  over-lent i ask t x l left a ex el ef ea =
       ea
-      ∙ ap (λ (y : Light). hopped y x (ask .size) t) el
-      ∙ ap (λ (y : Contact). hopped (lightOf (rowsFrom (rangeAt ranges) 0 n) y) y (ask .size) t) (ex ∙ sym (contact-lent contacts m ranges n c i))
+      ∙ ap (λ (y : Light). hopped y left x (ask .size) t) (el ∙ sym (light-lent contacts m pairs c i))
+      ∙ ap (λ (y : ℕ). hopped (lightIn (served contacts m pairs) c) y x (ask .size) t) (ef ∙ sym (left-lent contacts m pairs c i))
+      ∙ ap (λ (y : Contact). hopped (lightIn (served contacts m pairs) c) (leftIn (served contacts m pairs) c) y (ask .size) t) (ex ∙ sym (contact-lent contacts m pairs c i))
 
   module _ (ask : Ask) (u : ℕ) where
-    pub goes-not-least : c < 1 → false ≡ goesOn (planOf contacts m ranges n) ask u c
+    pub goes-not-least : c < 1 → false ≡ goesOn (served contacts m pairs) ask u c
     unfolding goesOn
     goes-not-least h = rw (lt-leb 1 c h)
 
-    pub goes-not-most : 1 ≤ c → m < c → false ≡ goesOn (planOf contacts m ranges n) ask u c
+    pub goes-not-most : 1 ≤ c → m < c → false ≡ goesOn (served contacts m pairs) ask u c
     unfolding goesOn
-    goes-not-most least h = rw (le-leb 1 c least, length-contacts contacts m ranges n, lt-leb c m h)
+    goes-not-most least h = rw (le-leb 1 c least, length-served contacts m pairs, lt-leb c m h)
 
     pub goes-by : 1 ≤ c → c ≤ m → (x : Contact) (b : Bool) → x ≡ contactAt contacts (c - 1) → b ≡ isBarred ask x
-        → eqb (x .from .0) u && not b ≡ goesOn (planOf contacts m ranges n) ask u c
+        → eqb (x .from .0) u && not b ≡ goesOn (served contacts m pairs) ask u c
     unfolding goesOn
     goes-by least most x b ex eb =
-        let same : x ≡ contactOf (planOf contacts m ranges n) c = ex ∙ sym (contact-lent contacts m ranges n c (named-in-plan least most)) in
-        let reads : eqb (x .from .0) u && not (isBarred ask x) ≡ eqb (contactOf (planOf contacts m ranges n) c .from .0) u && not (isBarred ask (contactOf (planOf contacts m ranges n) c)) =
+        let same : x ≡ contactOf (served contacts m pairs) c = ex ∙ sym (contact-lent contacts m pairs c (named-in-plan least most)) in
+        let reads : eqb (x .from .0) u && not (isBarred ask x) ≡ eqb (contactOf (served contacts m pairs) c .from .0) u && not (isBarred ask (contactOf (served contacts m pairs) c)) =
         ap (λ (y : Contact). eqb (y .from .0) u && not (isBarred ask y)) same in
-        rw (le-leb 1 c least, length-contacts contacts m ranges n, le-leb c m most, eb) reads
+        rw (le-leb 1 c least, length-served contacts m pairs, le-leb c m most, eb) reads
 
 -- the parts of a test that passes
 both-pass : (a b : Bool) → a && b ≡ true → (a ≡ true) × (b ≡ true)
@@ -88,18 +106,18 @@ both-pass true b e = (refl, e)
 both-pass false true e = (e, refl)
 both-pass false false e = (e, e)
 
-pub goes-in-plan : (p : Plan) (ask : Ask) (u c : ℕ) → goesOn p ask u c ≡ true → InPlan p c
+pub goes-in-plan : (p : Service) (ask : Ask) (u c : ℕ) → goesOn p ask u c ≡ true → InPlan p c
 unfolding goesOn
 goes-in-plan p ask u c e =
     let named = both-pass _ _ (both-pass _ _ (both-pass _ _ e .0) .0) in
     record { least = leb-true 1 c (named .0); most = leb-true c (length (p .contacts)) (named .1) }
 
 -- the way that a step went
-data Stepped (p : Plan) (ask : Ask) (u t c : ℕ) (a : Arrival) : Type 0 where
+data Stepped (p : Service) (ask : Ask) (u t c : ℕ) (a : Arrival) : Type 0 where
   went : goesOn p ask u c ≡ true → overContact p ask c t ≡ a → Stepped p ask u t c a
   stayed : goesOn p ask u c ≡ false → Never ≡ a → Stepped p ask u t c a
 
-stepped : (p : Plan) (ask : Ask) (u t c : ℕ) (a : Arrival) → stepOver p ask u t c ≡ a → Stepped p ask u t c a
+stepped : (p : Service) (ask : Ask) (u t c : ℕ) (a : Arrival) → stepOver p ask u t c ≡ a → Stepped p ask u t c a
 unfolding stepOver
 stepped p ask u t c a = go (goesOn p ask u c) refl
   where
@@ -107,32 +125,32 @@ stepped p ask u t c a = go (goesOn p ask u c) refl
     go true e f = went e f
     go false e f = stayed e f
 
-pub step-goes : (p : Plan) (ask : Ask) (u t c : ℕ) (a : Arrival) → goesOn p ask u c ≡ true → a ≡ overContact p ask c t → a ≡ stepOver p ask u t c
+pub step-goes : (p : Service) (ask : Ask) (u t c : ℕ) (a : Arrival) → goesOn p ask u c ≡ true → a ≡ overContact p ask c t → a ≡ stepOver p ask u t c
 unfolding stepOver
 step-goes p ask u t c a g o = rw g o
 
-pub step-stays : (p : Plan) (ask : Ask) (u t c : ℕ) → goesOn p ask u c ≡ false → Never ≡ stepOver p ask u t c
+pub step-stays : (p : Service) (ask : Ask) (u t c : ℕ) → goesOn p ask u c ≡ false → Never ≡ stepOver p ask u t c
 unfolding stepOver
 step-stays p ask u t c g = rw g
 
-pub steps-in-plan : (p : Plan) (ask : Ask) (u t c : ℕ) (s : Millis) → stepOver p ask u t c ≡ Ready s → InPlan p c
+pub steps-in-plan : (p : Service) (ask : Ask) (u t c : ℕ) (s : Millis) → stepOver p ask u t c ≡ Ready s → InPlan p c
 steps-in-plan p ask u t c s e = go (stepped p ask u t c (Ready s) e)
   where
     go : Stepped p ask u t c (Ready s) → InPlan p c
     go (went g o) = goes-in-plan p ask u c g
     go (stayed g o) = let z : _≡_ {A = ℕ} 0 1 = cc in absurd (omega arith)
 
-pub step-bounded : (p : Plan) → Valid p → (ask : Ask) (u t c : ℕ) (s : Millis) → stepOver p ask u t c ≡ Ready s → s .0 ≤ lastTime + mostLight
+pub step-bounded : (p : Service) → Sound p → (ask : Ask) (u t c : ℕ) (s : Millis) → stepOver p ask u t c ≡ Ready s → s .0 ≤ lastTime + mostLight
 unfolding overContact
 step-bounded p v ask u t c s e = go (stepped p ask u t c (Ready s) e)
   where
     go : Stepped p ask u t c (Ready s) → s .0 ≤ lastTime + mostLight
     go (went g o) =
         let i = goes-in-plan p ask u c g in
-        omega (arith, contact-good p v c i .ends, hop-bounded (lightOf (p .ranges) (contactOf p c)) (contactOf p c) (light-good p v (contactOf p c)) (ask .size) t s o)
+        omega (arith, contact-good p v c i .ends, hop-bounded (lightIn p c) (leftIn p c) (contactOf p c) (light-good p v c i) (ask .size) t s o)
     go (stayed g o) = let z : _≡_ {A = ℕ} 0 1 = cc in absurd (omega arith)
 
-carry-ready : (p : Plan) (ask : Ask) (u t c : ℕ) (cs : List ℕ) (s : Millis) → stepOver p ask u t c ≡ Ready s
+carry-ready : (p : Service) (ask : Ask) (u t c : ℕ) (cs : List ℕ) (s : Millis) → stepOver p ask u t c ≡ Ready s
     → carry p ask u t (c ∷ cs) ≡ carry p ask (contactOf p c .to .0) (s .0) cs
 unfolding carry
 carry-ready p ask u t c cs s e = go (stepped p ask u t c (Ready s) e)
@@ -141,7 +159,7 @@ carry-ready p ask u t c cs s e = go (stepped p ask u t c (Ready s) e)
     go (went g o) = rw (g, o)
     go (stayed g o) = cc
 
-carry-unready : (p : Plan) (ask : Ask) (u t c : ℕ) (cs : List ℕ) → stepOver p ask u t c ≡ Never → carry p ask u t (c ∷ cs) ≡ Never
+carry-unready : (p : Service) (ask : Ask) (u t c : ℕ) (cs : List ℕ) → stepOver p ask u t c ≡ Never → carry p ask u t (c ∷ cs) ≡ Never
 unfolding carry
 carry-unready p ask u t c cs e = go (stepped p ask u t c Never e)
   where
@@ -153,7 +171,7 @@ carry-unready p ask u t c cs e = go (stepped p ask u t c Never e)
 from-place : (chain : List ℕ) (i : ℕ) → i < length chain → drop i chain ≡ getD chain i 0 ∷ drop (i + 1) chain
 from-place chain i h = drop-cons chain i 0 h ∙ ap (λ (k : ℕ). getD chain i 0 ∷ drop k chain) (sym (add-one i))
 
-module _ (p : Plan) (ask : Ask) (u t : ℕ) (chain : List ℕ) (i : ℕ) where
+module _ (p : Service) (ask : Ask) (u t : ℕ) (chain : List ℕ) (i : ℕ) where
   pub carry-goes : (s : Millis) → i < length chain → stepOver p ask u t (getD chain i 0) ≡ Ready s
       → carry p ask u t (drop i chain) ≡ carry p ask (contactOf p (getD chain i 0) .to .0) (s .0) (drop (i + 1) chain)
   carry-goes s h e = ap (carry p ask u t) (from-place chain i h) ∙ carry-ready p ask u t (getD chain i 0) (drop (i + 1) chain) s e
@@ -170,13 +188,13 @@ module _ (p : Plan) (ask : Ask) (u t : ℕ) (chain : List ℕ) (i : ℕ) where
   carry-misses h e = ap (carry p ask u t) (drop-of-length-le chain h) ∙ rw (ne-eqb u (ask .destination .0) e)
 
 -- the step on along a chain, where the contact was read from its row
-pub carry-lent : (contacts : List ℕ) (m : ℕ) (ranges : List ℕ) (n : ℕ) (ask : Ask) (u t : ℕ) (chain : List ℕ) (i : ℕ) (s : Millis) (x : Contact)
+pub carry-lent : (contacts : List ℕ) (m : ℕ) (pairs : List ℕ) (ask : Ask) (u t : ℕ) (chain : List ℕ) (i : ℕ) (s : Millis) (x : Contact)
     → i < length chain
-    → stepOver (planOf contacts m ranges n) ask u t (getD chain i 0) ≡ Ready s
+    → stepOver (served contacts m pairs) ask u t (getD chain i 0) ≡ Ready s
     → x ≡ contactAt contacts (getD chain i 0 - 1)
-    → carry (planOf contacts m ranges n) ask u t (drop i chain) ≡ carry (planOf contacts m ranges n) ask (x .to .0) (s .0) (drop (i + 1) chain)
-carry-lent contacts m ranges n ask u t chain i s x h e ex =
-    let p : Plan = planOf contacts m ranges n in
+    → carry (served contacts m pairs) ask u t (drop i chain) ≡ carry (served contacts m pairs) ask (x .to .0) (s .0) (drop (i + 1) chain)
+carry-lent contacts m pairs ask u t chain i s x h e ex =
+    let p : Service = served contacts m pairs in
     carry-goes p ask u t chain i s h e
     ∙ ap (λ (y : Contact). carry p ask (y .to .0) (s .0) (drop (i + 1) chain))
-    (contact-lent contacts m ranges n (getD chain i 0) (steps-in-plan p ask u t (getD chain i 0) s e) ∙ sym ex)
+    (contact-lent contacts m pairs (getD chain i 0) (steps-in-plan p ask u t (getD chain i 0) s e) ∙ sym ex)

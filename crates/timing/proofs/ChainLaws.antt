@@ -17,12 +17,12 @@ use lib.Dec.{T, eqb}
 use lib.ListN.{length}
 use Rattle.units.specs.declared.Ask.{Ask}
 use Rattle.units.specs.declared.Millis.{Millis}
-use Rattle.plan.specs.Plan.{Plan, Valid}
 use Rattle.plan.specs.Verdict.{Verdict, holds, fails}
 use Rattle.plan.proofs.Verdicts.{tells-le, tells-eq, both, restated, holds-true}
+use Rattle.service.specs.Service.{Service, Sound, contactOf, InPlan}
 use Rattle.timing.specs.declared.arrival.Arrival.{Arrival}
 use Rattle.timing.specs.declared.arrival.Arrival.the-variants.{Ready, Never}
-use Rattle.timing.specs.Chain.{contactOf, InPlan, Carries, stays, hops, Allowed, askAt, askOf}
+use Rattle.timing.specs.Chain.{Carries, stays, hops, Allowed, askAt, askOf}
 use Rattle.timing.specs.Hop.{pickArrival, isBarred}
 use Rattle.timing.specs.Model.{goesOn, overContact, onward, carry, deliveryOf}
 use Rattle.timing.proofs.Bounded.{contact-good}
@@ -31,7 +31,7 @@ use Rattle.timing.proofs.HopLaws.{hop-after, hop-sooner, hop-smaller}
 same-ready : {x : Arrival} {a b : Millis} → x ≡ Ready a → x ≡ Ready b → a .0 ≡ b .0
 same-ready e f = cc
 
-module _ {p : Plan} {ask : Ask} where
+module _ {p : Service} {ask : Ask} where
   pub carries-determined : {u t : ℕ} {cs : List ℕ} {v r w s : ℕ} → Carries p ask u t cs v r → Carries p ask u t cs w s → (v ≡ w) × (r ≡ s)
   carries-determined stays stays = (refl, refl)
   carries-determined {w} {s} (hops _ _ _ e k) (hops {c} {cs} _ _ _ e' k') =
@@ -39,12 +39,12 @@ module _ {p : Plan} {ask : Ask} where
 
   pub carries-after : {u t : ℕ} {cs : List ℕ} {v r : ℕ} → Carries p ask u t cs v r → t ≤ r
   carries-after stays = le-refl _
-  carries-after (hops _ _ _ e k) = le-trans (hop-after _ _ _ _ _ e) (carries-after k)
+  carries-after (hops _ _ _ e k) = le-trans (hop-after _ _ _ _ _ _ e) (carries-after k)
 
   pub carries-sooner : {u s t : ℕ} {cs : List ℕ} {v r : ℕ} → s ≤ t → Carries p ask u t cs v r → (q : ℕ) × Carries p ask u s cs v q × (q ≤ r)
   carries-sooner h stays = (_, stays, h)
   carries-sooner h (hops i f b e k) =
-      let (a, e', l) = hop-sooner _ _ _ h _ e in
+      let (a, e', l) = hop-sooner _ _ _ _ h _ e in
       let (q, k', m) = carries-sooner l k in
       (q, hops i f b e' k', m)
 
@@ -58,18 +58,18 @@ module _ {p : Plan} {ask : Ask} where
   carries-some differ stays = absurd (differ refl)
   carries-some differ (hops _ _ _ _ _) = suc-le-suc zero-le
 
-pub carries-smaller : {p : Plan} (ask : Ask) {m n u t : ℕ} {cs : List ℕ} {v r : ℕ} → Valid p → m ≤ n → Carries p (askOf ask n) u t cs v r
+pub carries-smaller : {p : Service} (ask : Ask) {m n u t : ℕ} {cs : List ℕ} {v r : ℕ} → Sound p → m ≤ n → Carries p (askOf ask n) u t cs v r
     → (q : ℕ) × Carries p (askOf ask m) u t cs v q × (q ≤ r)
 unfolding isBarred
 carries-smaller ask valid h stays = (_, stays, le-refl _)
 carries-smaller {p} ask valid h (hops {c} i f b e k) =
-    let (a, e', l) = hop-smaller _ _ (contact-good p valid c i .rate-least) h _ _ e in
+    let (a, e', l) = hop-smaller _ _ _ (contact-good p valid c i .rate-least) h _ _ e in
     let (s, k', l') = carries-smaller ask valid h k in
     let (q, k'', l'') = carries-sooner l k' in
     (q, hops i f b e' k'', le-trans l'' l')
 
 -- the number names a contact of the plan that is from node u and not barred
-record From (p : Plan) (ask : Ask) (u c : ℕ) : Type 0 where
+record From (p : Service) (ask : Ask) (u c : ℕ) : Type 0 where
   in-plan : InPlan p c
   from : contactOf p c .from .0 ≡ u
   unbarred : isBarred ask (contactOf p c) ≡ false
@@ -78,14 +78,14 @@ tells-not : (b : Bool) → Verdict (b ≡ false) (not b)
 tells-not true = fails (λ e. subst T e tt)
 tells-not false = holds refl
 
-from-tells : (p : Plan) (ask : Ask) (u c : ℕ) → Verdict (From p ask u c) (goesOn p ask u c)
+from-tells : (p : Service) (ask : Ask) (u c : ℕ) → Verdict (From p ask u c) (goesOn p ask u c)
 unfolding goesOn
 from-tells p ask u c =
     restated (λ q. record { in-plan = record { least = q .0 .0 .0; most = q .0 .0 .1 }; from = q .0 .1; unbarred = q .1 })
     (λ g. (((g .in-plan .least, g .in-plan .most), g .from), g .unbarred))
     (both (both (both (tells-le 1 c) (tells-le c (length (p .contacts)))) (tells-eq (contactOf p c .from .0) u)) (tells-not (isBarred ask (contactOf p c))))
 
-module _ (p : Plan) (ask : Ask) where
+module _ (p : Service) (ask : Ask) where
   pub carry-sound : (u t : ℕ) (cs : List ℕ) (r : Millis) → carry p ask u t cs ≡ Ready r → Carries p ask u t cs (ask .destination .0) (r .0)
   unfolding carry
   carry-sound u t [] r e = go (eqb u (ask .destination .0)) (tells-eq _ _) e

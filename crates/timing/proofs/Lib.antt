@@ -6,3 +6,4 @@ pub mod Exclusion
 mod HopCode
 pub mod HopLaws
 pub mod Rounding
+pub mod Volume

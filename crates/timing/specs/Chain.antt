@@ -5,47 +5,32 @@
 use mathlib.Core.Bool.{false}
 use mathlib.Core.List.{List, [], _∷_}
 use mathlib.Core.Path.{_≡_}
-use Prim.Native.Nat.{ℕ, _≤_, _<_, _-_}
-use lib.ListN.{length, getD}
+use Prim.Native.Nat.{ℕ, _≤_, _<_}
+use lib.ListN.{length}
 use Rattle.units.specs.declared.Ask.{Ask}
-use Rattle.plan.specs.declared.rows.Contact.{Contact}
-use Rattle.plan.specs.Light.{lightOf}
-use Rattle.plan.specs.Plan.{Plan}
+use Rattle.service.specs.Service.{Service, contactOf, lightIn, leftIn, InPlan}
 use Rattle.timing.specs.declared.arrival.Arrival.the-variants.{Ready}
 use Rattle.timing.specs.Hop.{hopped, isBarred}
 
--- a contact that stands nowhere, for numbers that name none
-abbrev pub blank : Contact
-blank = record { start = record { 0 = 0 }; end = record { 0 = 0 }; from = record { 0 = 0 }; to = record { 0 = 0 }; rate = 0 }
-
--- the contact of a number: contacts are numbered from 1
-abbrev pub contactOf : Plan → ℕ → Contact
-contactOf p c = getD (p .contacts) (c - 1) blank
-
--- the number names a contact of the plan
-pub record InPlan (p : Plan) (c : ℕ) : Type 0 where
-  pub least : 1 ≤ c
-  pub most : c ≤ length (p .contacts)
-
 -- The file, ready at node u at time t, is carried by the chain to node v and is ready there at time r: each contact is from the node where the
--- file is, is not barred, is ranged and fits.
-pub data Carries (p : Plan) (ask : Ask) : ℕ → ℕ → List ℕ → ℕ → ℕ → Type 0 where
+-- file is, is not barred, is ranged and fits. `p` is the plan as it serves the ask.
+pub data Carries (p : Service) (ask : Ask) : ℕ → ℕ → List ℕ → ℕ → ℕ → Type 0 where
   stays : {u t : ℕ} → Carries p ask u t [] u t
   hops : {u t s v r c : ℕ} {cs : List ℕ}
       → InPlan p c
       → contactOf p c .from .0 ≡ u
       → isBarred ask (contactOf p c) ≡ false
-      → hopped (lightOf (p .ranges) (contactOf p c)) (contactOf p c) (ask .size) t ≡ Ready (record { 0 = s })
+      → hopped (lightIn p c) (leftIn p c) (contactOf p c) (ask .size) t ≡ Ready (record { 0 = s })
       → Carries p ask (contactOf p c .to .0) s cs v r
       → Carries p ask u t (c ∷ cs) v r
 
 -- the chain is allowed for the ask, and delivers at r: at least one contact, from the source to the destination
-pub record Allowed (p : Plan) (ask : Ask) (chain : List ℕ) (r : ℕ) : Type 0 where
+pub record Allowed (p : Service) (ask : Ask) (chain : List ℕ) (r : ℕ) : Type 0 where
   pub some-contact : 1 ≤ length chain
   pub carried : Carries p ask (ask .source .0) (ask .time .0) chain (ask .destination .0) r
 
 -- it is allowed, and delivers below the deadline
-pub record InTime (p : Plan) (ask : Ask) (chain : List ℕ) : Type 0 where
+pub record InTime (p : Service) (ask : Ask) (chain : List ℕ) : Type 0 where
   pub delivery : ℕ
   pub allowed : Allowed p ask chain delivery
   pub early : delivery < ask .deadline .0

@@ -35,12 +35,14 @@ abbrev pub pickArrival : Bool → Arrival → Arrival → Arrival
 pickArrival true a b = a
 pickArrival false a b = b
 
--- it fits if start plus sending time is at most the contact's end, and is then ready at the other end at start plus sending time plus light time
-unfoldable pub hopped : Light → Contact → ℕ → ℕ → Arrival
+-- it fits if start plus sending time is at most the contact's end and its consumption is at most what is left on the contact; it is then ready at
+-- the other end at start plus sending time plus light time
+unfoldable pub hopped : Light → ℕ → Contact → ℕ → ℕ → Arrival
 unfolding sent
-hopped (Of light) c size t =
-    pickArrival (leb (startOn c t + sent size (c .rate)) (c .end .0)) (Ready (record { 0 = startOn c t + sent size (c .rate) + light .0 })) Never
-hopped Unranged c size t = Never
+hopped (Of light) left c size t =
+    pickArrival (leb (startOn c t + sent size (c .rate)) (c .end .0) && leb (consumed size) left)
+    (Ready (record { 0 = startOn c t + sent size (c .rate) + light .0 })) Never
+hopped Unranged left c size t = Never
 
 -- excluded neighbours are a number: 1 for node 1, 2 for node 2, 4 for node 3 and so on
 unfoldable pub isExcluded : ℕ → ℕ → Bool

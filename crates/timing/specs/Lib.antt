@@ -1,4 +1,3 @@
-pub mod Bounds
 pub mod Chain
 pub mod Hop
 pub mod Model

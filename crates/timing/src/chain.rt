@@ -3,7 +3,8 @@ use crate::arrival::Arrival;
 use crate::hop::hop_over;
 use plan::Contact;
 use plan::contact_numbered;
-use plan::light_time;
+use service::left_numbered;
+use service::light_numbered;
 use units::Ask;
 use units::ContactNo;
 use units::Millis;
@@ -12,10 +13,9 @@ ghost use mathlib.Core.Path.{_≡_};
 ghost use Prim.Native.Nat.{_+_, _*_, _≤_};
 ghost use lib.ListN.{length};
 ghost use Rattle.units.specs.Limits.{IsNode, mostSize, lastTime, mostLight};
-ghost use Rattle.plan.specs.Light.{lightOf};
 ghost use Rattle.plan.specs.Plan.{GoodContact};
-ghost use Rattle.plan.specs.Tables.{IsPlan, planOf, rangeAt, rowsFrom};
-ghost use Rattle.timing.specs.Chain.{InPlan};
+ghost use Rattle.service.specs.Service.{InPlan};
+ghost use Rattle.service.specs.Tables.{IsService, served};
 ghost use Rattle.timing.specs.Hop.{isExcluded, isBarred};
 ghost use Rattle.timing.specs.Model.{goesOn, overContact, stepOver, deliveryOf};
 
@@ -41,14 +41,13 @@ fn is_barred(ask: Ask, c: Contact) -> bool
 pub fn goes_on(
     contacts: &[u64],
     contact_count: usize,
-    ranges: &[u64],
-    range_count: usize,
+    pairs: &[u64],
     ask: Ask,
     node: NodeNo,
     no: ContactNo,
 ) -> bool
-    requires { ⌜ IsPlan (now contacts) «contact_count» (now ranges) «range_count» ⌝ }
-    ensures { λ t. ⌜ t ≡ goesOn (planOf (now (contacts .entry)) «contact_count» (now (ranges .entry)) «range_count») ask (node .0) (no .0) ⌝ }
+    requires { ⌜ IsService (now contacts) «contact_count» (now pairs) ⌝ }
+    ensures { λ t. ⌜ t ≡ goesOn (served (now (contacts .entry)) «contact_count» (now (pairs .entry))) ask (node .0) (no .0) ⌝ }
 {
     if no.0 < 1 {
         return false;
@@ -64,17 +63,17 @@ pub fn goes_on(
 pub fn over(
     contacts: &[u64],
     contact_count: usize,
-    ranges: &[u64],
-    range_count: usize,
+    pairs: &[u64],
     ask: Ask,
     no: ContactNo,
     ready: Millis,
 ) -> Arrival
-    requires { ⌜ IsPlan (now contacts) «contact_count» (now ranges) «range_count» × InPlan (planOf (now contacts) «contact_count» (now ranges) «range_count») (no .0) × (ask .size ≤ mostSize) × (ready .0 ≤ lastTime + mostLight) ⌝ }
-    ensures { λ r. ⌜ r ≡ overContact (planOf (now (contacts .entry)) «contact_count» (now (ranges .entry)) «range_count») ask (no .0) (ready .0) ⌝ }
+    requires { ⌜ IsService (now contacts) «contact_count» (now pairs) × InPlan (served (now contacts) «contact_count» (now pairs)) (no .0) × (ask .size ≤ mostSize) × (ready .0 ≤ lastTime + mostLight) ⌝ }
+    ensures { λ r. ⌜ r ≡ overContact (served (now (contacts .entry)) «contact_count» (now (pairs .entry))) ask (no .0) (ready .0) ⌝ }
 {
     let c = contact_numbered(contacts, no);
-    hop_over(light_time(ranges, range_count, c), c, ask.size, ready)
+    let light = light_numbered(pairs, no);
+    hop_over(light, left_numbered(pairs, no), c, ask.size, ready)
 }
 
 // When the file, ready at `node` at `ready`, is ready behind the contact of that number: never where
@@ -82,18 +81,17 @@ pub fn over(
 pub fn step(
     contacts: &[u64],
     contact_count: usize,
-    ranges: &[u64],
-    range_count: usize,
+    pairs: &[u64],
     ask: Ask,
     node: NodeNo,
     ready: Millis,
     no: ContactNo,
 ) -> Arrival
-    requires { ⌜ IsPlan (now contacts) «contact_count» (now ranges) «range_count» × (ask .size ≤ mostSize) × (ready .0 ≤ lastTime + mostLight) ⌝ }
-    ensures { λ r. ⌜ r ≡ stepOver (planOf (now (contacts .entry)) «contact_count» (now (ranges .entry)) «range_count») ask (node .0) (ready .0) (no .0) ⌝ }
+    requires { ⌜ IsService (now contacts) «contact_count» (now pairs) × (ask .size ≤ mostSize) × (ready .0 ≤ lastTime + mostLight) ⌝ }
+    ensures { λ r. ⌜ r ≡ stepOver (served (now (contacts .entry)) «contact_count» (now (pairs .entry))) ask (node .0) (ready .0) (no .0) ⌝ }
 {
-    if goes_on(contacts, contact_count, ranges, range_count, ask, node, no) {
-        over(contacts, contact_count, ranges, range_count, ask, no, ready)
+    if goes_on(contacts, contact_count, pairs, ask, node, no) {
+        over(contacts, contact_count, pairs, ask, no, ready)
     } else {
         Arrival::Never
     }
@@ -104,29 +102,19 @@ pub fn step(
 pub fn delivery(
     contacts: &[u64],
     contact_count: usize,
-    ranges: &[u64],
-    range_count: usize,
+    pairs: &[u64],
     ask: Ask,
     chain: &[u64],
 ) -> Arrival
-    requires { ⌜ IsPlan (now contacts) «contact_count» (now ranges) «range_count» × (ask .size ≤ mostSize) × (ask .time .0 ≤ lastTime) ⌝ }
-    ensures { λ r. ⌜ r ≡ deliveryOf (planOf (now (contacts .entry)) «contact_count» (now (ranges .entry)) «range_count») ask (now (chain .entry)) ⌝ }
+    requires { ⌜ IsService (now contacts) «contact_count» (now pairs) × (ask .size ≤ mostSize) × (ask .time .0 ≤ lastTime) ⌝ }
+    ensures { λ r. ⌜ r ≡ deliveryOf (served (now (contacts .entry)) «contact_count» (now (pairs .entry))) ask (now (chain .entry)) ⌝ }
 {
     let mut node = ask.source;
     let mut ready = ask.time;
     let mut i = 0;
     while i < chain.len() {
         let no = ContactNo(chain[i]);
-        let arrival = step(
-            contacts,
-            contact_count,
-            ranges,
-            range_count,
-            ask,
-            node,
-            ready,
-            no,
-        );
+        let arrival = step(contacts, contact_count, pairs, ask, node, ready, no);
         let Arrival::Ready(t) = arrival else {
             return Arrival::Never;
         };

@@ -8,7 +8,7 @@ ghost use Prim.Native.Nat.{_+_, _-_, _≤_, min, max};
 ghost use Rattle.units.specs.Limits.{mostSize, mostRate, lastTime, mostLight};
 ghost use Rattle.plan.specs.Plan.{GoodContact};
 ghost use Rattle.plan.specs.declared.light.Light.the-variants.{Of};
-ghost use Rattle.timing.specs.Bounds.{LightGood};
+ghost use Rattle.service.specs.Service.{LightGood};
 ghost use Rattle.timing.specs.Hop.{consumed, sent, hopped};
 ghost use Rattle.timing.specs.Model.{backOver};
 
@@ -58,53 +58,58 @@ fn done_at(c: Contact, size: u64, ready: Millis) -> Millis
 }
 
 // The hop over a contact that has a light time.
-fn hop_ranged(l: Millis, c: Contact, size: u64, ready: Millis) -> Arrival
+fn hop_ranged(l: Millis, left: u64, c: Contact, size: u64, ready: Millis) -> Arrival
     requires { ⌜ (l .0 ≤ mostLight) × GoodContact c × (size ≤ mostSize) × (ready .0 ≤ lastTime + mostLight) ⌝ }
-    ensures { λ r. ⌜ r ≡ hopped (Of l) c size (ready .0) ⌝ }
+    ensures { λ r. ⌜ r ≡ hopped (Of l) left c size (ready .0) ⌝ }
 {
     let done = done_at(c, size, ready);
-    if done.0 <= c.end.0 {
-        Arrival::Ready(Millis(done.0 + l.0))
-    } else {
-        Arrival::Never
+    if c.end.0 < done.0 {
+        return Arrival::Never;
     }
+    if left < consumption(size) {
+        return Arrival::Never;
+    }
+    Arrival::Ready(Millis(done.0 + l.0))
 }
 
-// When the file is ready behind the contact, if it is ready before it at `ready`.
-pub fn hop_over(light: Light, c: Contact, size: u64, ready: Millis) -> Arrival
+// When the file is ready behind the contact, if it is ready before it at `ready` and so many bytes are
+// left on it.
+pub fn hop_over(light: Light, left: u64, c: Contact, size: u64, ready: Millis) -> Arrival
     requires { ⌜ LightGood light × GoodContact c × (size ≤ mostSize) × (ready .0 ≤ lastTime + mostLight) ⌝ }
-    ensures { λ r. ⌜ r ≡ hopped light c size (ready .0) ⌝ }
+    ensures { λ r. ⌜ r ≡ hopped light left c size (ready .0) ⌝ }
 {
     match light {
-        Light::Of(l) => hop_ranged(l, c, size, ready),
+        Light::Of(l) => hop_ranged(l, left, c, size, ready),
         Light::Unranged => Arrival::Never,
     }
 }
 
 // The step back over a contact that has a light time.
-fn back_ranged(l: Millis, c: Contact, size: u64, limit: Millis) -> Millis
+fn back_ranged(l: Millis, left: u64, c: Contact, size: u64, limit: Millis) -> Millis
     requires { ⌜ (l .0 ≤ mostLight) × GoodContact c × (size ≤ mostSize) ⌝ }
-    ensures { λ r. ⌜ r .0 ≡ backOver (Of l) c size (limit .0) ⌝ }
+    ensures { λ r. ⌜ r .0 ≡ backOver (Of l) left c size (limit .0) ⌝ }
 {
     let send = sending(size, c.rate).0;
     let by_end = less(c.end.0 + 1, send);
     let by_limit = less(limit.0, send + l.0);
     let most = least(by_end, by_limit);
-    if c.start.0 < most {
-        Millis(most)
-    } else {
-        Millis(0)
+    if most <= c.start.0 {
+        return Millis(0);
     }
+    if left < consumption(size) {
+        return Millis(0);
+    }
+    Millis(most)
 }
 
 // The limit below which the file must be ready before the contact, so that it is ready behind it
 // below `limit`; 0 where it never is.
-pub fn back(light: Light, c: Contact, size: u64, limit: Millis) -> Millis
+pub fn back(light: Light, left: u64, c: Contact, size: u64, limit: Millis) -> Millis
     requires { ⌜ LightGood light × GoodContact c × (size ≤ mostSize) ⌝ }
-    ensures { λ r. ⌜ r .0 ≡ backOver light c size (limit .0) ⌝ }
+    ensures { λ r. ⌜ r .0 ≡ backOver light left c size (limit .0) ⌝ }
 {
     match light {
-        Light::Of(l) => back_ranged(l, c, size, limit),
+        Light::Of(l) => back_ranged(l, left, c, size, limit),
         Light::Unranged => Millis(0),
     }
 }

@@ -14,25 +14,27 @@ use lib.Seq.{take-suc, take-add, getD-drop}
 use Rattle.units.specs.declared.Ask.{Ask}
 use Rattle.plan.specs.declared.rows.Contact.{Contact}
 use Rattle.plan.specs.declared.light.Light.{Light}
-use Rattle.plan.specs.Light.{lightOf}
-use Rattle.plan.specs.Plan.{Plan, Each}
-use Rattle.plan.specs.Tables.{contactAt, rangeAt, rowsFrom, planOf}
-use Rattle.timing.specs.Chain.{contactOf, InPlan, Carries, stays, hops}
+use Rattle.plan.specs.Plan.{Each}
+use Rattle.plan.specs.Tables.{contactAt}
+use Rattle.service.specs.Service.{Service, contactOf, lightIn, leftIn, InPlan}
+use Rattle.service.specs.Tables.{lightAt, leftAt, served}
+use Rattle.timing.specs.Chain.{Carries, stays, hops}
 use Rattle.timing.specs.Model.{backOver}
 use Rattle.walk.specs.Model.{limitOver, limitBefore}
-use Rattle.timing.proofs.ChainCode.{contact-lent}
+use Rattle.timing.proofs.ChainCode.{contact-lent, light-lent, left-lent}
 use Rattle.walk.proofs.LastCallLaws.{limit-append}
 
-pub back-lent : (contacts : List ℕ) (m : ℕ) (ranges : List ℕ) (n c : ℕ) → InPlan (planOf contacts m ranges n) c → (ask : Ask) (limit : ℕ) (x : Contact) (l : Light) (r : ℕ)
-    → x ≡ contactAt contacts (c - 1) → l ≡ lightOf (rowsFrom (rangeAt ranges) 0 n) x → r ≡ backOver l x (ask .size) limit
-    → r ≡ limitOver (planOf contacts m ranges n) ask c limit
-unfolding planOf
-back-lent contacts m ranges n c i ask limit x l r ex el er =
+pub back-lent : (contacts : List ℕ) (m : ℕ) (pairs : List ℕ) (c : ℕ) → InPlan (served contacts m pairs) c → (ask : Ask) (limit : ℕ) (x : Contact) (l : Light) (left r : ℕ)
+    → x ≡ contactAt contacts (c - 1) → l ≡ lightAt pairs (c - 1) → left ≡ leftAt pairs (c - 1) → r ≡ backOver l left x (ask .size) limit
+    → r ≡ limitOver (served contacts m pairs) ask c limit
+back-lent contacts m pairs c i ask limit x l left r ex el ef er =
     er
-    ∙ ap (λ (y : Light). backOver y x (ask .size) limit) el
-    ∙ ap (λ (y : Contact). backOver (lightOf (rowsFrom (rangeAt ranges) 0 n) y) y (ask .size) limit) (ex ∙ sym (contact-lent contacts m ranges n c i))
+    ∙ ap (λ (y : Light). backOver y left x (ask .size) limit) (el ∙ sym (light-lent contacts m pairs c i))
+    ∙ ap (λ (y : ℕ). backOver (lightIn (served contacts m pairs) c) y x (ask .size) limit) (ef ∙ sym (left-lent contacts m pairs c i))
+    ∙ ap (λ (y : Contact). backOver (lightIn (served contacts m pairs) c) (leftIn (served contacts m pairs) c) y (ask .size) limit)
+    (ex ∙ sym (contact-lent contacts m pairs c i))
 
-module _ (p : Plan) (ask : Ask) where
+module _ (p : Service) (ask : Ask) where
   pub part-none : (xs : List ℕ) (count limit : ℕ) → count ≡ 0 → limit ≡ limitBefore p ask (take count xs) limit
   unfolding limitBefore
   part-none xs count limit e = rw e

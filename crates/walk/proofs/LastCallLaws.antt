@@ -8,25 +8,24 @@ use mathlib.Core.Path.{_≡_, refl, ap}
 use Prim.Native.Nat.{ℕ, _-_, _<_}
 use native.Mathlib.Omega.{arith}
 use Rattle.units.specs.declared.Ask.{Ask}
-use Rattle.plan.specs.Light.{lightOf}
-use Rattle.plan.specs.Plan.{Plan}
-use Rattle.timing.specs.Chain.{contactOf, Carries, stays, hops, Allowed}
+use Rattle.service.specs.Service.{Service, contactOf, lightIn, leftIn}
+use Rattle.timing.specs.Chain.{Carries, stays, hops, Allowed}
 use Rattle.walk.specs.Figures.{IsLastCall}
 use Rattle.timing.specs.Model.{backOver}
 use Rattle.walk.specs.Model.{limitBefore}
 use Rattle.timing.proofs.ChainLaws.{carries-at}
 use Rattle.timing.proofs.HopLaws.{back-enough, back-needed}
 
-module _ (p : Plan) (ask : Ask) where
+module _ (p : Service) (ask : Ask) where
   pub limit-append : (xs ys : List ℕ) (limit : ℕ) → limitBefore p ask (xs ++ ys) limit ≡ limitBefore p ask xs (limitBefore p ask ys limit)
   unfolding limitBefore
   limit-append [] ys limit = refl
-  limit-append (c ∷ xs) ys limit = ap (backOver (lightOf (p .ranges) (contactOf p c)) (contactOf p c) (ask .size)) (limit-append xs ys limit)
+  limit-append (c ∷ xs) ys limit = ap (backOver (lightIn p c) (leftIn p c) (contactOf p c) (ask .size)) (limit-append xs ys limit)
 
   pub limit-needed : {u t : ℕ} {cs : List ℕ} {v r : ℕ} (limit : ℕ) → Carries p ask u t cs v r → r < limit → t < limitBefore p ask cs limit
   unfolding limitBefore
   limit-needed limit stays h = h
-  limit-needed limit (hops _ _ _ e k) h = back-needed _ _ _ _ _ _ e (limit-needed limit k h)
+  limit-needed limit (hops _ _ _ e k) h = back-needed _ _ _ _ _ _ _ e (limit-needed limit k h)
 
   -- of a chain that carries the file from some time
   pub limit-enough : {u s : ℕ} {cs : List ℕ} {v q : ℕ} (limit t : ℕ) → Carries p ask u s cs v q → t < limitBefore p ask cs limit
@@ -34,7 +33,7 @@ module _ (p : Plan) (ask : Ask) where
   unfolding limitBefore
   limit-enough limit t stays h = (t, stays, h)
   limit-enough limit t (hops i f b _ k) h =
-      let (a, e, l) = back-enough _ _ _ _ t h in
+      let (a, e, l) = back-enough _ _ _ _ _ t h in
       let (r, k', m) = limit-enough limit (a .0) k l in
       (r, hops i f b e k', m)
 

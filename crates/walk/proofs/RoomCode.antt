@@ -14,7 +14,7 @@ use lib.Dec.{leb}
 use lib.Pow.{pow-mono}
 use Rattle.units.specs.Limits.{mostSize}
 use Rattle.units.specs.declared.Ask.{Ask}
-use Rattle.plan.specs.Plan.{Plan}
+use Rattle.service.specs.Service.{Service}
 use Rattle.walk.specs.Model.{carriesSize, raised, roomFrom, sizeBits, roomOf}
 
 pub halved : (b bit : ℕ) → 0 < b → bit ≡ 2 ^ b → bit / 2 ≡ 2 ^ (b - 1)
@@ -24,7 +24,7 @@ halved (suc b) bit h e = let less : suc b - 1 ≡ b = omega arith in rw less (om
 pub bit-most : (b : ℕ) → b ≤ sizeBits → 2 ^ b ≤ 2 ^ sizeBits
 bit-most b h = pow-mono h
 
-module _ (p : Plan) (ask : Ask) (chain : List ℕ) where
+module _ (p : Service) (ask : Ask) (chain : List ℕ) where
   pub raised-most : (n bit : ℕ) → n ≤ mostSize → raised p ask chain n bit ≤ mostSize
   raised-most n bit h = go (leb (n + bit) mostSize) (carriesSize p ask chain (n + bit)) refl
     where

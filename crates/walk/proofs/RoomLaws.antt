@@ -13,9 +13,9 @@ use native.Mathlib.Nat.{two-pow-succ}
 use native.Mathlib.Omega.{arith}
 use Rattle.units.specs.Limits.{mostSize}
 use Rattle.units.specs.declared.Ask.{Ask}
-use Rattle.plan.specs.Plan.{Plan, Valid}
 use Rattle.plan.specs.Verdict.{Verdict, holds, fails}
 use Rattle.plan.proofs.Verdicts.{tells-le, tells-lt, both, restated}
+use Rattle.service.specs.Service.{Service, Sound}
 use Rattle.timing.specs.declared.arrival.Arrival.{Arrival}
 use Rattle.timing.specs.declared.arrival.Arrival.the-variants.{Ready, Never}
 use Rattle.timing.specs.Chain.{Allowed, InTime, askOf}
@@ -26,7 +26,7 @@ use Rattle.walk.specs.Walk.{GoodAsk}
 use Rattle.timing.proofs.ChainLaws.{carries-smaller, allowed-delivery, allowed-never, allowed-determined}
 
 -- the delivery tells whether the chain is in time
-in-time-tells : (p : Plan) (ask : Ask) → (ask .source .0 ≡ ask .destination .0 → ⊥) → (chain : List ℕ)
+in-time-tells : (p : Service) (ask : Ask) → (ask .source .0 ≡ ask .destination .0 → ⊥) → (chain : List ℕ)
     → Verdict (InTime p ask chain) (isBefore (deliveryOf p ask chain) (ask .deadline .0))
 in-time-tells p ask differ chain = go (deliveryOf p ask chain) refl
   where
@@ -37,18 +37,18 @@ in-time-tells p ask differ chain = go (deliveryOf p ask chain) refl
         (tells-lt (r .0) (ask .deadline .0))
     go Never e = fails (λ i. allowed-never p ask e (i .allowed))
 
-pub size-tells : (p : Plan) (ask : Ask) → (ask .source .0 ≡ ask .destination .0 → ⊥) → (chain : List ℕ) (n : ℕ)
+pub size-tells : (p : Service) (ask : Ask) → (ask .source .0 ≡ ask .destination .0 → ⊥) → (chain : List ℕ) (n : ℕ)
     → Verdict (InTime p (askOf ask n) chain) (carriesSize p ask chain n)
 unfolding carriesSize
 size-tells p ask differ chain n = in-time-tells p (askOf ask n) differ chain
 
 -- with b bits left: n is 0 or is carried, and whatever is carried is below n plus 2 ^ b
-record SoFar (p : Plan) (ask : Ask) (chain : List ℕ) (n b : ℕ) : Type 0 where
+record SoFar (p : Service) (ask : Ask) (chain : List ℕ) (n b : ℕ) : Type 0 where
   most : n ≤ mostSize
   carried : (n ≡ 0) ⊎ InTime p (askOf ask n) chain
   greatest : (m : ℕ) → m ≤ mostSize → InTime p (askOf ask m) chain → m < n + 2 ^ b
 
-module _ (p : Plan) (valid : Valid p) (ask : Ask) (chain : List ℕ) where
+module _ (p : Service) (valid : Sound p) (ask : Ask) (chain : List ℕ) where
   pub in-time-smaller : {m n : ℕ} → m ≤ n → InTime p (askOf ask n) chain → InTime p (askOf ask m) chain
   in-time-smaller h i =
       let (q, k, l) = carries-smaller ask valid h (i .allowed .carried) in

@@ -16,9 +16,9 @@ use native.Mathlib.Omega.{arith}
 use Rattle.units.specs.declared.Ask.{Ask}
 use Rattle.units.specs.declared.Refusal.the-variants.{TooLate}
 use Rattle.units.specs.Limits.{lastTime, mostSize}
-use Rattle.plan.specs.Plan.{Plan, Valid}
 use Rattle.plan.specs.Verdict.{Verdict, holds, fails}
 use Rattle.plan.proofs.Verdicts.{tells-lt}
+use Rattle.service.specs.Service.{Service, Sound}
 use Rattle.timing.specs.declared.arrival.Arrival.{Arrival}
 use Rattle.timing.specs.declared.arrival.Arrival.the-variants.{Ready, Never}
 use Rattle.walk.specs.declared.figures.Figures.{Figures}
@@ -33,7 +33,7 @@ use Rattle.timing.proofs.ChainLaws.{carries-after, allowed-delivery, allowed-ne
 use Rattle.walk.proofs.LastCallLaws.{last-call-is}
 use Rattle.walk.proofs.RoomLaws.{room-is}
 
-module _ {p : Plan} {ask : Ask} {chain : List ℕ} where
+module _ {p : Service} {ask : Ask} {chain : List ℕ} where
   pub last-call-unique : {s t : ℕ} → IsLastCall p ask chain s → IsLastCall p ask chain t → s ≡ t
   last-call-unique {s} {t} a b = le-antisymm (b .greatest s (a .not-before) (a .still)) (a .greatest t (b .not-before) (b .still))
 
@@ -90,7 +90,7 @@ module _ {contacts : List ℕ} {m : ℕ} {ranges : List ℕ} {n : ℕ} {ask : As
   walks-determined (walked p g d w) (same-node p' g' s) = absurd (d s)
   walks-determined (walked p g d w) (walked p' g' d' w') = walks-plan-determined w w'
 
-module _ (p : Plan) (ask : Ask) (chain : List ℕ) (valid : Valid p) (good : GoodAsk ask) (differ : ask .source .0 ≡ ask .destination .0 → ⊥) where
+module _ (p : Service) (ask : Ask) (chain : List ℕ) (valid : Sound p) (good : GoodAsk ask) (differ : ask .source .0 ≡ ask .destination .0 → ⊥) where
   has-figures : {r : ℕ} → Allowed p ask chain r → r < ask .deadline .0 → HasFigures p ask chain (figuresOf p ask chain r)
   unfolding figuresOf
   has-figures a h = record {

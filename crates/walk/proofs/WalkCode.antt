@@ -3,6 +3,7 @@
 --     opens-lent           the start on the first contact, where it was read from its row
 --     figures-by           figures worked out one by one
 --     walk-never, walk-late, walk-carries      the answer, by when the chain delivers
+--     walk-serves          the answer over the pairs that `serve` filled
 -- Assumes nothing.
 use mathlib.Core.List.{List}
 use mathlib.Core.Path.{_≡_, sym, ap, _∙_}
@@ -14,15 +15,16 @@ use Rattle.units.specs.declared.Ask.{Ask}
 use Rattle.units.specs.declared.Millis.{Millis}
 use Rattle.units.specs.declared.Refusal.the-variants.{NotAllowed, TooLate}
 use Rattle.plan.specs.declared.rows.Contact.{Contact}
-use Rattle.plan.specs.Plan.{Plan}
-use Rattle.plan.specs.Tables.{contactAt, planOf}
+use Rattle.plan.specs.Tables.{contactAt}
 use Rattle.plan.specs.Verdict.{Verdict}
 use Rattle.plan.proofs.Tests.{isNode-tells}
 use Rattle.plan.proofs.Verdicts.{tells-le, both, restated}
 use Rattle.timing.specs.declared.arrival.Arrival.the-variants.{Ready, Never}
 use Rattle.walk.specs.declared.figures.Figures.{Figures}
+use Rattle.walk.specs.declared.figures.Walked.{Walked}
 use Rattle.walk.specs.declared.figures.Walked.the-variants.{Carried, Refused}
-use Rattle.timing.specs.Chain.{InPlan, contactOf}
+use Rattle.service.specs.Service.{Service, contactOf, InPlan}
+use Rattle.service.specs.Tables.{served}
 use Rattle.timing.specs.Hop.{startOn}
 use Rattle.walk.specs.Model.{goodAsk, limitBefore, roomOf, figuresOf, walkModel}
 use Rattle.timing.specs.Model.{deliveryOf}
@@ -47,11 +49,11 @@ goodAsk-tells ask =
     (tells-le (ask .size) mostSize))
     (tells-le (ask .deadline .0) lastTime))
 
-pub opens-lent : (contacts : List ℕ) (m : ℕ) (ranges : List ℕ) (n c : ℕ) → InPlan (planOf contacts m ranges n) c → (t : ℕ) (x : Contact) (r : ℕ)
-    → x ≡ contactAt contacts (c - 1) → r ≡ max t (x .start .0) → r ≡ startOn (contactOf (planOf contacts m ranges n) c) t
-opens-lent contacts m ranges n c i t x r ex er = er ∙ ap (λ (y : Contact). max t (y .start .0)) (ex ∙ sym (contact-lent contacts m ranges n c i))
+pub opens-lent : (contacts : List ℕ) (m : ℕ) (pairs : List ℕ) (c : ℕ) → InPlan (served contacts m pairs) c → (t : ℕ) (x : Contact) (r : ℕ)
+    → x ≡ contactAt contacts (c - 1) → r ≡ max t (x .start .0) → r ≡ startOn (contactOf (served contacts m pairs) c) t
+opens-lent contacts m pairs c i t x r ex er = er ∙ ap (λ (y : Contact). max t (y .start .0)) (ex ∙ sym (contact-lent contacts m pairs c i))
 
-module _ (p : Plan) (ask : Ask) (chain : List ℕ) where
+module _ (p : Service) (ask : Ask) (chain : List ℕ) where
   pub figures-by : (d o l : Millis) (n : ℕ) → o .0 ≡ startOn (contactOf p (getD chain 0 0)) (ask .time .0)
       → l .0 ≡ limitBefore p ask chain (ask .deadline .0) - 1 → n ≡ roomOf p ask chain
       → _≡_ {A = Figures} (record { delivery = d; opens = o; «last_call» = l; room = n }) (figuresOf p ask chain (d .0))
@@ -70,3 +72,7 @@ module _ (p : Plan) (ask : Ask) (chain : List ℕ) where
       → Carried f ≡ walkModel p ask chain
   unfolding walkModel
   walk-carries r f e h ef = rw (e, lt-ltb (r .0) (ask .deadline .0) h, ef)
+
+-- the answer over a service that is the plan's
+pub walk-serves : (s p : Service) (ask : Ask) (chain : List ℕ) (w : Walked) → s ≡ p → w ≡ walkModel s ask chain → w ≡ walkModel p ask chain
+walk-serves s p ask chain w e ew = ew ∙ ap (λ (q : Service). walkModel q ask chain) e

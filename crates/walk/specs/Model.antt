@@ -13,11 +13,10 @@ use Rattle.units.specs.Limits.{lastTime, mostSize}
 use Rattle.units.specs.Model.{isNode}
 use Rattle.units.specs.declared.Ask.{Ask}
 use Rattle.units.specs.declared.Refusal.the-variants.{NotAllowed, TooLate}
-use Rattle.plan.specs.Light.{lightOf}
-use Rattle.plan.specs.Plan.{Plan}
+use Rattle.service.specs.Service.{Service, contactOf, lightIn, leftIn}
 use Rattle.timing.specs.declared.arrival.Arrival.{Arrival}
 use Rattle.timing.specs.declared.arrival.Arrival.the-variants.{Ready, Never}
-use Rattle.timing.specs.Chain.{contactOf, askOf}
+use Rattle.timing.specs.Chain.{askOf}
 use Rattle.timing.specs.Hop.{startOn}
 use Rattle.timing.specs.Model.{backOver, deliveryOf}
 use Rattle.walk.specs.declared.figures.Figures.{Figures}
@@ -31,11 +30,11 @@ goodAsk ask =
     && leb (ask .deadline .0) lastTime
 
 -- the same over the contact of a number
-abbrev pub limitOver : Plan → Ask → ℕ → ℕ → ℕ
-limitOver p ask c limit = backOver (lightOf (p .ranges) (contactOf p c)) (contactOf p c) (ask .size) limit
+abbrev pub limitOver : Service → Ask → ℕ → ℕ → ℕ
+limitOver p ask c limit = backOver (lightIn p c) (leftIn p c) (contactOf p c) (ask .size) limit
 
 -- the same over a chain, worked back from its last contact
-unfoldable pub limitBefore : Plan → Ask → List ℕ → ℕ → ℕ
+unfoldable pub limitBefore : Service → Ask → List ℕ → ℕ → ℕ
 unfolding backOver
 limitBefore p ask [] limit = limit
 limitBefore p ask (c ∷ cs) limit = limitOver p ask c (limitBefore p ask cs limit)
@@ -45,16 +44,16 @@ isBefore (Ready s) limit = ltb (s .0) limit
 isBefore Never limit = false
 
 -- the chain carries a file of n bytes in time
-unfoldable pub carriesSize : Plan → Ask → List ℕ → ℕ → Bool
+unfoldable pub carriesSize : Service → Ask → List ℕ → ℕ → Bool
 unfolding deliveryOf
 carriesSize p ask chain n = isBefore (deliveryOf p (askOf ask n) chain) (ask .deadline .0)
 
 -- n with a bit added, where that is still carried
-abbrev pub raised : Plan → Ask → List ℕ → ℕ → ℕ → ℕ
+abbrev pub raised : Service → Ask → List ℕ → ℕ → ℕ → ℕ
 raised p ask chain n bit = cond (leb (n + bit) mostSize && carriesSize p ask chain (n + bit)) (n + bit) n
 
 -- a size with its lower b bits still to be found
-unfoldable pub roomFrom : Plan → Ask → List ℕ → ℕ → ℕ → ℕ
+unfoldable pub roomFrom : Service → Ask → List ℕ → ℕ → ℕ → ℕ
 unfolding carriesSize
 roomFrom p ask chain n zero = n
 roomFrom p ask chain n (suc b) = roomFrom p ask chain (raised p ask chain n (2 ^ b)) b
@@ -63,12 +62,12 @@ roomFrom p ask chain n (suc b) = roomFrom p ask chain (raised p ask chain n (2 ^
 abbrev pub sizeBits : ℕ
 sizeBits = 30
 
-unfoldable pub roomOf : Plan → Ask → List ℕ → ℕ
+unfoldable pub roomOf : Service → Ask → List ℕ → ℕ
 unfolding roomFrom
 roomOf p ask chain = roomFrom p ask chain 0 sizeBits
 
 -- the figures of a chain that delivers at r
-unfoldable pub figuresOf : Plan → Ask → List ℕ → ℕ → Figures
+unfoldable pub figuresOf : Service → Ask → List ℕ → ℕ → Figures
 figuresOf p ask chain r = record {
   delivery = record { 0 = r };
   opens = record { 0 = startOn (contactOf p (getD chain 0 0)) (ask .time .0) };
@@ -81,9 +80,9 @@ pickWalked true a b = a
 pickWalked false a b = b
 
 -- what a walk answers, from when the chain delivers
-abbrev pub walkedOf : Plan → Ask → List ℕ → Arrival → Walked
+abbrev pub walkedOf : Service → Ask → List ℕ → Arrival → Walked
 walkedOf p ask chain (Ready r) = pickWalked (ltb (r .0) (ask .deadline .0)) (Carried (figuresOf p ask chain (r .0))) (Refused TooLate)
 walkedOf p ask chain Never = Refused NotAllowed
 
-unfoldable pub walkModel : Plan → Ask → List ℕ → Walked
+unfoldable pub walkModel : Service → Ask → List ℕ → Walked
 walkModel p ask chain = walkedOf p ask chain (deliveryOf p ask chain)

@@ -6,8 +6,8 @@ use Prim.Native.Nat.{ℕ, _≤_}
 use Rattle.units.specs.Limits.{IsNode, lastTime, mostSize}
 use Rattle.units.specs.declared.Ask.{Ask}
 use Rattle.units.specs.declared.Refusal.the-variants.{NoPlan, AskValue, SameNode, NotAllowed, TooLate}
-use Rattle.plan.specs.Plan.{Plan}
 use Rattle.plan.specs.Tables.{IsPlan, planOf}
+use Rattle.service.specs.Service.{Service, serviceOf, unused}
 use Rattle.walk.specs.declared.figures.Figures.{Figures}
 use Rattle.walk.specs.declared.figures.Walked.{Walked}
 use Rattle.walk.specs.declared.figures.Walked.the-variants.{Carried, Refused}
@@ -23,8 +23,8 @@ pub record GoodAsk (ask : Ask) : Type 0 where
   pub size-most : ask .size ≤ mostSize
   pub deadline-most : ask .deadline .0 ≤ lastTime
 
--- the answer for a valid plan and a good ask between two nodes
-pub data WalksPlan (p : Plan) (ask : Ask) (chain : List ℕ) : Walked → Type 0 where
+-- the answer for a valid plan, as it serves the ask, and a good ask between two nodes
+pub data WalksPlan (p : Service) (ask : Ask) (chain : List ℕ) : Walked → Type 0 where
   not-allowed : ((r : ℕ) → Allowed p ask chain r → ⊥) → WalksPlan p ask chain (Refused NotAllowed)
   too-late : {r : ℕ} → Allowed p ask chain r → ask .deadline .0 ≤ r → WalksPlan p ask chain (Refused TooLate)
   carried : {f : Figures} → HasFigures p ask chain f → WalksPlan p ask chain (Carried f)
@@ -35,4 +35,4 @@ pub data Walks (contacts : List ℕ) (m : ℕ) (ranges : List ℕ) (n : ℕ) (as
   bad-ask : IsPlan contacts m ranges n → (GoodAsk ask → ⊥) → Walks contacts m ranges n ask chain (Refused AskValue)
   same-node : IsPlan contacts m ranges n → GoodAsk ask → ask .source .0 ≡ ask .destination .0 → Walks contacts m ranges n ask chain (Refused SameNode)
   walked : {w : Walked} → IsPlan contacts m ranges n → GoodAsk ask → (ask .source .0 ≡ ask .destination .0 → ⊥)
-      → WalksPlan (planOf contacts m ranges n) ask chain w → Walks contacts m ranges n ask chain w
+      → WalksPlan (serviceOf (planOf contacts m ranges n) unused) ask chain w → Walks contacts m ranges n ask chain w

@@ -7,7 +7,7 @@ use units::Millis;
 ghost use mathlib.Core.Path.{_≡_};
 ghost use Prim.Native.Nat.{_+_, _^_, _≤_};
 ghost use Rattle.units.specs.Limits.{mostSize, lastTime};
-ghost use Rattle.plan.specs.Tables.{IsPlan, planOf};
+ghost use Rattle.service.specs.Tables.{IsService, served};
 ghost use Rattle.walk.specs.Model.{isBefore, carriesSize, raised, sizeBits, roomOf};
 
 fn is_before(a: Arrival, limit: Millis) -> bool
@@ -23,20 +23,19 @@ fn is_before(a: Arrival, limit: Millis) -> bool
 fn is_carried(
     contacts: &[u64],
     contact_count: usize,
-    ranges: &[u64],
-    range_count: usize,
+    pairs: &[u64],
     ask: Ask,
     chain: &[u64],
     size: u64,
 ) -> bool
-    requires { ⌜ IsPlan (now contacts) «contact_count» (now ranges) «range_count» × (size ≤ mostSize) × (ask .time .0 ≤ lastTime) ⌝ }
-    ensures { λ t. ⌜ t ≡ carriesSize (planOf (now (contacts .entry)) «contact_count» (now (ranges .entry)) «range_count») ask (now (chain .entry)) size ⌝ }
+    requires { ⌜ IsService (now contacts) «contact_count» (now pairs) × (size ≤ mostSize) × (ask .time .0 ≤ lastTime) ⌝ }
+    ensures { λ t. ⌜ t ≡ carriesSize (served (now (contacts .entry)) «contact_count» (now (pairs .entry))) ask (now (chain .entry)) size ⌝ }
 {
     let mut probe = ask;
     probe.size = size;
     let deadline = ask.deadline;
     is_before(
-        delivery(contacts, contact_count, ranges, range_count, probe, chain),
+        delivery(contacts, contact_count, pairs, probe, chain),
         deadline,
     )
 }
@@ -45,29 +44,20 @@ fn is_carried(
 fn raise(
     contacts: &[u64],
     contact_count: usize,
-    ranges: &[u64],
-    range_count: usize,
+    pairs: &[u64],
     ask: Ask,
     chain: &[u64],
     size: u64,
     bit: u64,
 ) -> u64
-    requires { ⌜ IsPlan (now contacts) «contact_count» (now ranges) «range_count» × (ask .time .0 ≤ lastTime) × (size ≤ mostSize) × (bit ≤ 2 ^ sizeBits) ⌝ }
-    ensures { λ r. ⌜ r ≡ raised (planOf (now (contacts .entry)) «contact_count» (now (ranges .entry)) «range_count») ask (now (chain .entry)) size bit ⌝ }
+    requires { ⌜ IsService (now contacts) «contact_count» (now pairs) × (ask .time .0 ≤ lastTime) × (size ≤ mostSize) × (bit ≤ 2 ^ sizeBits) ⌝ }
+    ensures { λ r. ⌜ r ≡ raised (served (now (contacts .entry)) «contact_count» (now (pairs .entry))) ask (now (chain .entry)) size bit ⌝ }
 {
     let more = size + bit;
     if MOST_SIZE < more {
         return size;
     }
-    if is_carried(
-        contacts,
-        contact_count,
-        ranges,
-        range_count,
-        ask,
-        chain,
-        more,
-    ) {
+    if is_carried(contacts, contact_count, pairs, ask, chain, more) {
         more
     } else {
         size
@@ -80,16 +70,9 @@ const SIZE_BITS: u64 = 30;
 const SIZE_TOP: u64 = 1_073_741_824;
 
 // The greatest size that the chain carries in time.
-pub fn room(
-    contacts: &[u64],
-    contact_count: usize,
-    ranges: &[u64],
-    range_count: usize,
-    ask: Ask,
-    chain: &[u64],
-) -> u64
-    requires { ⌜ IsPlan (now contacts) «contact_count» (now ranges) «range_count» × (ask .time .0 ≤ lastTime) ⌝ }
-    ensures { λ r. ⌜ r ≡ roomOf (planOf (now (contacts .entry)) «contact_count» (now (ranges .entry)) «range_count») ask (now (chain .entry)) ⌝ }
+pub fn room(contacts: &[u64], contact_count: usize, pairs: &[u64], ask: Ask, chain: &[u64]) -> u64
+    requires { ⌜ IsService (now contacts) «contact_count» (now pairs) × (ask .time .0 ≤ lastTime) ⌝ }
+    ensures { λ r. ⌜ r ≡ roomOf (served (now (contacts .entry)) «contact_count» (now (pairs .entry))) ask (now (chain .entry)) ⌝ }
 {
     let mut size: u64 = 0;
     let mut bit: u64 = SIZE_TOP;
@@ -97,16 +80,7 @@ pub fn room(
     while 0 < bits {
         bits -= 1;
         bit /= 2;
-        size = raise(
-            contacts,
-            contact_count,
-            ranges,
-            range_count,
-            ask,
-            chain,
-            size,
-            bit,
-        );
+        size = raise(contacts, contact_count, pairs, ask, chain, size, bit);
     }
     size
 }

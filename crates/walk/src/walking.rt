@@ -5,6 +5,8 @@ use crate::last_call::limit_before;
 use crate::room::room;
 use plan::contact_numbered;
 use plan::is_plan;
+use service::PAIRS;
+use service::serve;
 use timing::Arrival;
 use timing::delivery;
 use timing::later;
@@ -16,11 +18,13 @@ use units::Millis;
 use units::Refusal;
 use units::is_node;
 ghost use mathlib.Core.Path.{_≡_};
-ghost use Prim.Native.Nat.{_-_, _≤_, _<_};
+ghost use Prim.Native.Nat.{_-_, _*_, _≤_, _<_};
 ghost use lib.ListN.{length, getD};
+ghost use Rattle.units.specs.Limits.{mostContacts};
 ghost use Rattle.plan.specs.Plan.{Each};
 ghost use Rattle.plan.specs.Tables.{IsPlan, planOf};
-ghost use Rattle.timing.specs.Chain.{InPlan, contactOf};
+ghost use Rattle.service.specs.Service.{InPlan, contactOf, serviceOf, unused};
+ghost use Rattle.service.specs.Tables.{pairWords, IsService, served};
 ghost use Rattle.timing.specs.Hop.{startOn};
 ghost use Rattle.walk.specs.Model.{goodAsk, limitBefore, figuresOf, walkModel};
 ghost use Rattle.walk.specs.Walk.{GoodAsk, Walks};
@@ -40,16 +44,9 @@ pub fn is_good_ask(ask: Ask) -> bool
 }
 
 // When the file starts on the chain's first contact.
-fn opens(
-    contacts: &[u64],
-    contact_count: usize,
-    ranges: &[u64],
-    range_count: usize,
-    ask: Ask,
-    chain: &[u64],
-) -> Millis
-    requires { ⌜ IsPlan (now contacts) «contact_count» (now ranges) «range_count» × Each (InPlan (planOf (now contacts) «contact_count» (now ranges) «range_count»)) (now chain) × (1 ≤ length (now chain)) ⌝ }
-    ensures { λ r. ⌜ r .0 ≡ startOn (contactOf (planOf (now (contacts .entry)) «contact_count» (now (ranges .entry)) «range_count») (getD (now (chain .entry)) 0 0)) (ask .time .0) ⌝ }
+fn opens(contacts: &[u64], contact_count: usize, pairs: &[u64], ask: Ask, chain: &[u64]) -> Millis
+    requires { ⌜ IsService (now contacts) «contact_count» (now pairs) × Each (InPlan (served (now contacts) «contact_count» (now pairs))) (now chain) × (1 ≤ length (now chain)) ⌝ }
+    ensures { λ r. ⌜ r .0 ≡ startOn (contactOf (served (now (contacts .entry)) «contact_count» (now (pairs .entry))) (getD (now (chain .entry)) 0 0)) (ask .time .0) ⌝ }
 {
     let first = ContactNo(chain[0]);
     let start = contact_numbered(contacts, first).start;
@@ -61,24 +58,15 @@ fn opens(
 fn last_call(
     contacts: &[u64],
     contact_count: usize,
-    ranges: &[u64],
-    range_count: usize,
+    pairs: &[u64],
     ask: Ask,
     chain: &[u64],
 ) -> Millis
-    requires { ⌜ IsPlan (now contacts) «contact_count» (now ranges) «range_count» × Each (InPlan (planOf (now contacts) «contact_count» (now ranges) «range_count»)) (now chain) × GoodAsk ask ⌝ }
-    ensures { λ r. ⌜ r .0 ≡ limitBefore (planOf (now (contacts .entry)) «contact_count» (now (ranges .entry)) «range_count») ask (now (chain .entry)) (ask .deadline .0) - 1 ⌝ }
+    requires { ⌜ IsService (now contacts) «contact_count» (now pairs) × Each (InPlan (served (now contacts) «contact_count» (now pairs))) (now chain) × GoodAsk ask ⌝ }
+    ensures { λ r. ⌜ r .0 ≡ limitBefore (served (now (contacts .entry)) «contact_count» (now (pairs .entry))) ask (now (chain .entry)) (ask .deadline .0) - 1 ⌝ }
 {
     let deadline = ask.deadline;
-    let limit = limit_before(
-        contacts,
-        contact_count,
-        ranges,
-        range_count,
-        ask,
-        chain,
-        deadline,
-    );
+    let limit = limit_before(contacts, contact_count, pairs, ask, chain, deadline);
     if 0 < limit.0 {
         Millis(limit.0 - 1)
     } else {
@@ -90,18 +78,17 @@ fn last_call(
 pub fn figures_of(
     contacts: &[u64],
     contact_count: usize,
-    ranges: &[u64],
-    range_count: usize,
+    pairs: &[u64],
     ask: Ask,
     chain: &[u64],
     delivered: Millis,
 ) -> Figures
-    requires { ⌜ IsPlan (now contacts) «contact_count» (now ranges) «range_count» × Each (InPlan (planOf (now contacts) «contact_count» (now ranges) «range_count»)) (now chain) × GoodAsk ask × (1 ≤ length (now chain)) ⌝ }
-    ensures { λ r. ⌜ r ≡ figuresOf (planOf (now (contacts .entry)) «contact_count» (now (ranges .entry)) «range_count») ask (now (chain .entry)) (delivered .0) ⌝ }
+    requires { ⌜ IsService (now contacts) «contact_count» (now pairs) × Each (InPlan (served (now contacts) «contact_count» (now pairs))) (now chain) × GoodAsk ask × (1 ≤ length (now chain)) ⌝ }
+    ensures { λ r. ⌜ r ≡ figuresOf (served (now (contacts .entry)) «contact_count» (now (pairs .entry))) ask (now (chain .entry)) (delivered .0) ⌝ }
 {
-    let opening = opens(contacts, contact_count, ranges, range_count, ask, chain);
-    let call = last_call(contacts, contact_count, ranges, range_count, ask, chain);
-    let most = room(contacts, contact_count, ranges, range_count, ask, chain);
+    let opening = opens(contacts, contact_count, pairs, ask, chain);
+    let call = last_call(contacts, contact_count, pairs, ask, chain);
+    let most = room(contacts, contact_count, pairs, ask, chain);
     Figures {
         delivery: delivered,
         opens: opening,
@@ -110,7 +97,47 @@ pub fn figures_of(
     }
 }
 
-// The answer for a valid plan and a good ask between two nodes.
+// The answer for a plan as it serves the ask, and a good ask between two nodes.
+fn walk_served(
+    contacts: &[u64],
+    contact_count: usize,
+    pairs: &[u64],
+    ask: Ask,
+    chain: &[u64],
+) -> Walked
+    requires { ⌜ IsService (now contacts) «contact_count» (now pairs) × GoodAsk ask × (ask .source .0 ≡ ask .destination .0 → ⊥) ⌝ }
+    ensures { λ r. ⌜ r ≡ walkModel (served (now (contacts .entry)) «contact_count» (now (pairs .entry))) ask (now (chain .entry)) ⌝ }
+{
+    let arrival = delivery(contacts, contact_count, pairs, ask, chain);
+    let Arrival::Ready(delivered) = arrival else {
+        return Walked::Refused(Refusal::NotAllowed);
+    };
+    if delivered.0 < ask.deadline.0 {
+        Walked::Carried(figures_of(contacts, contact_count, pairs, ask, chain, delivered))
+    } else {
+        Walked::Refused(Refusal::TooLate)
+    }
+}
+
+// The answer for a valid plan and a good ask between two nodes, by way of a table of light times and of
+// what is left.
+fn walk_through(
+    contacts: &[u64],
+    contact_count: usize,
+    ranges: &[u64],
+    range_count: usize,
+    ask: Ask,
+    chain: &[u64],
+    pairs: &mut [u64],
+) -> Walked
+    requires { ⌜ IsPlan (now contacts) «contact_count» (now ranges) «range_count» × GoodAsk ask × (ask .source .0 ≡ ask .destination .0 → ⊥) × (mostContacts * pairWords ≤ length (now pairs)) ⌝ }
+    ensures { λ r. ⌜ r ≡ walkModel (serviceOf (planOf (now (contacts .entry)) «contact_count» (now (ranges .entry)) «range_count») unused) ask (now (chain .entry)) ⌝ }
+{
+    serve(contacts, contact_count, ranges, range_count, pairs);
+    walk_served(contacts, contact_count, pairs, ask, chain)
+}
+
+// The same, with that table on the stack.
 fn walk_plan(
     contacts: &[u64],
     contact_count: usize,
@@ -120,25 +147,18 @@ fn walk_plan(
     chain: &[u64],
 ) -> Walked
     requires { ⌜ IsPlan (now contacts) «contact_count» (now ranges) «range_count» × GoodAsk ask × (ask .source .0 ≡ ask .destination .0 → ⊥) ⌝ }
-    ensures { λ r. ⌜ r ≡ walkModel (planOf (now (contacts .entry)) «contact_count» (now (ranges .entry)) «range_count») ask (now (chain .entry)) ⌝ }
+    ensures { λ r. ⌜ r ≡ walkModel (serviceOf (planOf (now (contacts .entry)) «contact_count» (now (ranges .entry)) «range_count») unused) ask (now (chain .entry)) ⌝ }
 {
-    let arrival = delivery(contacts, contact_count, ranges, range_count, ask, chain);
-    let Arrival::Ready(delivered) = arrival else {
-        return Walked::Refused(Refusal::NotAllowed);
-    };
-    if delivered.0 < ask.deadline.0 {
-        Walked::Carried(figures_of(
-            contacts,
-            contact_count,
-            ranges,
-            range_count,
-            ask,
-            chain,
-            delivered,
-        ))
-    } else {
-        Walked::Refused(Refusal::TooLate)
-    }
+    let mut pairs = [0u64; PAIRS];
+    walk_through(
+        contacts,
+        contact_count,
+        ranges,
+        range_count,
+        ask,
+        chain,
+        &mut pairs,
+    )
 }
 
 // Times the chain given for the ask, over the plan that the tables hold: its figures, or why it is

@@ -16,7 +16,7 @@ returns c = arrive-never _ _ _ _ (c .if1 .taken)
 contact-numbered-requires : tie.Need-contact-numbered-requires
 contact-numbered-requires c κs =
     let pre = c .before .before .before .pre in
-    omega (arith, pre .2 .least, named-at-most _ _ _ _ _ (pre .2), pre .0 .contacts-lent)
+    omega (arith, pre .2 .least, named-at-most _ _ _ _ (pre .2), pre .0 .contacts-lent)
 
 step-requires : tie.Need-step-requires
 unfolding neverWord
@@ -37,7 +37,7 @@ returns-2 c =
     let at-row = at-step .before .before in
     let start = at-row .before .before .before .before in
     let time = ⊎-elim (λ h. h) (λ e. absurd (at-row .before .if1 .left e)) (start .pre .3) in
-    arrive-ready _ _ _ _ (start .pre .0) _ _ _ (start .pre .2) time _ (at-row .contact-numbered .ensures) _ _ (at-step .step .ensures) (c .before .arrival .given .1)
+    arrive-ready _ _ _ (start .pre .0) _ _ _ (start .pre .2) time _ (at-row .contact-numbered .ensures) _ _ (at-step .step .ensures) (c .before .arrival .given .1)
 
 returns-3 : tie.Need-returns-3
 unfolding neverWord
@@ -46,7 +46,7 @@ returns-3 c =
     let at-row = at-step .before .before in
     let start = at-row .before .before .before .before in
     let time = ⊎-elim (λ h. h) (λ e. absurd (at-row .before .if1 .left e)) (start .pre .3) in
-    arrive-unready _ _ _ _ (start .pre .0) _ _ _ (start .pre .2) time _ (at-row .contact-numbered .ensures) _ (at-step .step .ensures) (c .enum-told .given .1)
+    arrive-unready _ _ _ (start .pre .0) _ _ _ (start .pre .2) time _ (at-row .contact-numbered .ensures) _ (at-step .step .ensures) (c .enum-told .given .1)
 
 pub arrive-spec : {M : Type 1} → statement M
 arrive-spec =

@@ -5,18 +5,18 @@ use Prim.Native.Nat.{_-_, _≤_}
 use native.Mathlib.Omega.{arith}
 use lib.ListN.{length}
 use Rattle.units.specs.Limits.{mostNodes}
-use Rattle.plan.specs.Tables.{planOf}
+use Rattle.service.specs.Tables.{served}
 use Rattle.layers.specs.Bridge.{networkOf}
 use Rattle.layers.proofs.FillCode.{RowsTo, length-blank, contacts-counted, rows-begin, rows-next, rows-settled, rows-all}
 use Rattle.layers.proofs.filling.fill.Statement.{statement}
 use Rattle.layers.proofs.filling.fill.Tie as tie
 
 abbrev Inv-loop : tie.InvT-loop
-Inv-loop contacts contact-count ranges range-count ask words₀ source k₀ words k =
-    (k ≤ 63) × RowsTo (networkOf (planOf contacts contact-count ranges range-count) ask) words k
+Inv-loop contacts contact-count pairs ask words₀ source k₀ words k =
+    (k ≤ 63) × RowsTo (networkOf (served contacts contact-count pairs) ask) words k
 
 abbrev μ-loop : tie.MeasureT-loop
-μ-loop contacts contact-count ranges range-count ask words₀ source k₀ words k = 63 - k
+μ-loop contacts contact-count pairs ask words₀ source k₀ words k = 63 - k
 
 sub-source : tie.Need-sub-source Inv-loop μ-loop
 sub-source c = c .before .before .before .before .pre .1 .source-node .least
@@ -59,7 +59,7 @@ returns c =
     let at-next = c .before .before .before in
     let at-test = at-next .before .before in
     let next = at-next .next-row .ensures in
-    let rows = rows-next _ _ _ _ _ (contacts-counted _ _ _ _ _) (at-test .before .loop .inv .1) (next .0) in
+    let rows = rows-next _ _ _ _ _ (contacts-counted _ _ _ _) (at-test .before .loop .inv .1) (next .0) in
     rows-settled _ _ _ (omega (arith, at-test .loop-test .taken)) rows (next .1 (c .if1 .taken))
 
 loop-less : tie.Need-loop-less Inv-loop μ-loop
@@ -70,7 +70,7 @@ loop-again c =
     let at-next = c .before .before .before in
     let at-test = at-next .before .before in
     let next = at-next .next-row .ensures in
-    let rows = rows-next _ _ _ _ _ (contacts-counted _ _ _ _ _) (at-test .before .loop .inv .1) (next .0) in
+    let rows = rows-next _ _ _ _ _ (contacts-counted _ _ _ _) (at-test .before .loop .inv .1) (next .0) in
     (omega (arith, at-test .loop-test .taken), rows)
 
 same-length-2 : tie.Need-same-length-2 Inv-loop μ-loop

@@ -4,7 +4,6 @@ use mathlib.Core.Path.{_≡_}
 use Prim.Native.Nat.{_-_, _≤_}
 use native.Mathlib.Omega.{arith}
 use borrow.Author.Needs.{needs}
-use Rattle.plan.specs.Tables.{planOf}
 use Rattle.network.specs.Model.{relaxed}
 use Rattle.layers.specs.Bridge.{networkOf}
 use Rattle.layers.specs.Words.{layerOf, Layered}
@@ -12,14 +11,15 @@ use Rattle.timing.proofs.ChainCode.{named-in-plan}
 use Rattle.layers.proofs.LayerCode.{none-tried, more-tried}
 use Rattle.layers.proofs.filling.try_all.Statement.{statement}
 use Rattle.layers.proofs.filling.try_all.Tie as tie
+use Rattle.service.specs.Tables.{served}
 
 abbrev Inv-loop : tie.InvT-loop
-Inv-loop contacts contact-count ranges range-count ask words₀ k tried₀ words tried =
+Inv-loop contacts contact-count pairs ask words₀ k tried₀ words tried =
     (tried ≤ contact-count)
-    × Layered words₀ words k (relaxed (networkOf (planOf contacts contact-count ranges range-count) ask) (layerOf words₀ k) tried)
+    × Layered words₀ words k (relaxed (networkOf (served contacts contact-count pairs) ask) (layerOf words₀ k) tried)
 
 abbrev μ-loop : tie.MeasureT-loop
-μ-loop contacts contact-count ranges range-count ask words₀ k tried₀ words tried = contact-count - tried
+μ-loop contacts contact-count pairs ask words₀ k tried₀ words tried = contact-count - tried
 
 loop-holds : tie.Need-loop-holds Inv-loop μ-loop
 loop-holds c = let pre = c .before .before .before .pre in (omega arith, none-tried _ _ _ _ (pre .2) (pre .4))
@@ -32,7 +32,7 @@ try-contact-requires c κs =
     let at-loop = c .before .before in
     let inv = at-loop .loop .inv in
     let pre = at-loop .before .before .before .before .pre in
-    (pre .0, pre .1, named-in-plan _ _ _ _ _ (omega arith) (omega (arith, c .before .loop-test .taken)), inv .1 .timed, omega (arith, inv .1 .long, pre .3))
+    (pre .0, pre .1, named-in-plan _ _ _ _ (omega arith) (omega (arith, c .before .loop-test .taken)), inv .1 .timed, omega (arith, inv .1 .long, pre .3))
 
 loop-less : tie.Need-loop-less Inv-loop μ-loop
 loop-less c = omega arith

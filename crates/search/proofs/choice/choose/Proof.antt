@@ -5,7 +5,7 @@ use Prim.Native.Nat.{_+_, _-_, _≤_}
 use native.Mathlib.Nat.{le-trans, mul-le-mul-right}
 use native.Mathlib.Omega.{arith}
 use Rattle.units.specs.Limits.{lastTime, mostLight, mostNodes}
-use Rattle.plan.specs.Tables.{planOf}
+use Rattle.service.specs.Tables.{served}
 use Rattle.layers.specs.Bridge.{networkOf}
 use Rattle.layers.specs.Bridge.{goal}
 use Rattle.search.specs.Model.{chainOf}
@@ -15,23 +15,23 @@ use Rattle.search.proofs.choice.choose.Statement.{statement}
 use Rattle.search.proofs.choice.choose.Tie as tie
 
 abbrev Inv-loop : tie.InvT-loop
-Inv-loop contacts contact-count ranges range-count ask words count delivered chain₀ k₀ v₀ limit₀ chain k v limit =
-    Working (networkOf (planOf contacts contact-count ranges range-count) ask) chain₀ chain count (goal ask) delivered k v (limit .0)
+Inv-loop contacts contact-count pairs ask words count delivered chain₀ k₀ v₀ limit₀ chain k v limit =
+    Working (networkOf (served contacts contact-count pairs) ask) chain₀ chain count (goal ask) delivered k v (limit .0)
 
 abbrev μ-loop : tie.MeasureT-loop
-μ-loop contacts contact-count ranges range-count ask words count delivered chain₀ k₀ v₀ limit₀ chain k v limit = k
+μ-loop contacts contact-count pairs ask words count delivered chain₀ k₀ v₀ limit₀ chain k v limit = k
 
 sub-v : tie.Need-sub-v Inv-loop μ-loop
 sub-v c = c .before .before .before .before .before .pre .0 .1 .destination-node .least
 
-add-t14 : tie.Need-add-t14 Inv-loop μ-loop
+add-t13 : tie.Need-add-t13 Inv-loop μ-loop
 unfolding lastTime mostLight
-add-t14 c = omega (arith, c .before .before .before .before .before .pre .1 .4)
+add-t13 c = omega (arith, c .before .before .before .before .before .pre .1 .4)
 
 loop-holds : tie.Need-loop-holds Inv-loop μ-loop
 loop-holds c =
     let pre = c .before .before .before .before .before .pre in
-    working-begins _ (network-laws _ (pre .0 .0 .valid) _ (pre .0 .1)) _ _ _ _ (pre .1 .1) (pre .1 .2)
+    working-begins _ (network-laws _ (pre .0 .0 .sound) _ (pre .0 .1)) _ _ _ _ (pre .1 .1) (pre .1 .2)
 
 sub-k : tie.Need-sub-k Inv-loop μ-loop
 sub-k c = omega arith
@@ -62,7 +62,7 @@ back-over-requires c κs =
     let at-test = at-lowest .before in
     let at-loop = at-test .before in
     let pre = at-loop .before .before .before .before .before .before .pre in
-    let laws = network-laws _ (pre .0 .0 .valid) _ (pre .0 .1) in
+    let laws = network-laws _ (pre .0 .0 .sound) _ (pre .0 .1) in
     let leads = found-leads _ _ laws _ _ _ _ _ _ _ _ _ _ (at-test .loop-test .taken) (at-loop .loop .inv) (pre .1 .0) (at-lowest .lowest-leading .ensures) in
     (pre .0 .0, lead-named _ _ _ _ _ _ leads, pre .0 .1 .size-most)
 
@@ -72,7 +72,7 @@ ends-of-requires c κs =
     let at-test = at-lowest .before in
     let at-loop = at-test .before in
     let pre = at-loop .before .before .before .before .before .before .pre in
-    let laws = network-laws _ (pre .0 .0 .valid) _ (pre .0 .1) in
+    let laws = network-laws _ (pre .0 .0 .sound) _ (pre .0 .1) in
     let leads = found-leads _ _ laws _ _ _ _ _ _ _ _ _ _ (at-test .loop-test .taken) (at-loop .loop .inv) (pre .1 .0) (at-lowest .lowest-leading .ensures) in
     (pre .0 .0, lead-named _ _ _ _ _ _ leads)
 
@@ -85,7 +85,7 @@ loop-again c =
     let at-test = at-lowest .before in
     let at-loop = at-test .before in
     let pre = at-loop .before .before .before .before .before .before .pre in
-    let laws = network-laws _ (pre .0 .0 .valid) _ (pre .0 .1) in
+    let laws = network-laws _ (pre .0 .0 .sound) _ (pre .0 .1) in
     found-goes _ _ laws _ _ _ _ _ _ _ _ _ _ (at-test .loop-test .taken) (at-loop .loop .inv) (pre .1 .0) (at-lowest .lowest-leading .ensures) _ _ _ _ (pre .1 .3) refl
     (c .ends-of .ensures) (c .before .back-over .ensures)
 
@@ -96,7 +96,7 @@ returns : tie.Need-returns Inv-loop μ-loop
 unfolding chainOf
 returns c =
     let pre = c .before .before .before .before .before .before .before .pre in
-    working-ends _ (network-laws _ (pre .0 .0 .valid) _ (pre .0 .1)) _ _ _ _ _ _ _ _ (c .loop-test .left) (c .before .loop .inv)
+    working-ends _ (network-laws _ (pre .0 .0 .sound) _ (pre .0 .1)) _ _ _ _ _ _ _ _ (c .loop-test .left) (c .before .loop .inv)
 
 pub choose-spec : {M : Type 1} → statement M
 choose-spec =
@@ -105,7 +105,7 @@ choose-spec =
     Inv-loop
     μ-loop
     sub-v
-    add-t14
+    add-t13
     loop-holds
     sub-k
     lowest-leading-requires

@@ -7,6 +7,8 @@ use Rattle.units.specs.Limits.{mostChain}
 use Rattle.plan.proofs.Verdicts.{true-holds, false-fails}
 use Rattle.walk.proofs.WalkCode.{goodAsk-tells}
 use Rattle.search.specs.Route.{RoutesPlan, short-chain, no-plan, bad-ask, same-node, routed}
+use Rattle.service.specs.Service.{unused}
+use Rattle.service.proofs.ServiceLaws.{service-sound}
 use Rattle.search.proofs.Theorems.{route-model-routes}
 use Rattle.search.proofs.routing.route.Statement.{statement}
 use Rattle.search.proofs.routing.route.Tie as tie
@@ -64,7 +66,7 @@ returns-5 c =
     let differ = c .before .before .before .before .if4 .left in
     let answer = c .before .before .route-plan .ensures in
     routed (at-plan .before .if1 .left) plan good differ
-    (subst₂ (RoutesPlan _ _ _) (sym (answer .0)) (sym (answer .1)) (route-model-routes _ _ _ (plan .valid) good differ))
+    (subst₂ (RoutesPlan _ _ _) (sym (answer .0)) (sym (answer .1)) (route-model-routes _ _ _ (service-sound _ (plan .valid) unused) good differ))
 
 pub route-spec : {M : Type 1} → statement M
 route-spec =

@@ -31,7 +31,7 @@ returns c =
     let at-get = c .before in
     let at-fill = at-get .before .before .before .before .before in
     let pre = at-fill .before .before .before .before .before .before .pre in
-    route-none _ (pre .0 .valid) _ (pre .1) (pre .2) _ _ (at-fill .fill .ensures) _ (at-get .get .ensures) _ (c .if1 .taken)
+    route-none _ (pre .0 .sound) _ (pre .1) (pre .2) _ _ (at-fill .fill .ensures) _ (at-get .get .ensures) _ (c .if1 .taken)
 
 same-length-2 : tie.Need-same-length-2
 same-length-2 c = search needs
@@ -42,7 +42,7 @@ returns-2 c =
     let at-get = c .before .before .before in
     let at-fill = at-get .before .before .before .before .before in
     let pre = at-fill .before .before .before .before .before .before .pre in
-    route-late _ (pre .0 .valid) _ (pre .1) (pre .2) _ _ (at-fill .fill .ensures) _ (at-get .get .ensures) (c .before .before .if1 .left) _ (c .if2 .taken)
+    route-late _ (pre .0 .sound) _ (pre .1) (pre .2) _ _ (at-fill .fill .ensures) _ (at-get .get .ensures) (c .before .before .if1 .left) _ (c .if2 .taken)
 
 first-row-requires : tie.Need-first-row-requires
 first-row-requires c κs =
@@ -63,10 +63,10 @@ choose-requires c κs =
       (pre .0, pre .1, filled .timed, row-inside _ _ _ _ filled (first .most)),
       (
         (λ j h. filled .rows j (le-trans h (first .most))),
-        delivered-at _ (pre .0 .valid) _ (pre .1) (pre .2) _ _ (at-fill .fill .ensures) _ (at-get .get .ensures) some,
-        count-is _ (pre .0 .valid) _ (pre .1) (pre .2) _ _ (at-fill .fill .ensures) _ (at-get .get .ensures) some _ first,
-        le-trans (count-room _ (pre .0 .valid) _ (pre .1) (pre .2) _ _ (at-fill .fill .ensures) _ (at-get .get .ensures) some _ first) (pre .4),
-        delivered-most _ (pre .0 .valid) _ (pre .1) (pre .2) _ _ (at-fill .fill .ensures) _ (at-get .get .ensures) some,
+        delivered-at _ (pre .0 .sound) _ (pre .1) (pre .2) _ _ (at-fill .fill .ensures) _ (at-get .get .ensures) some,
+        count-is _ (pre .0 .sound) _ (pre .1) (pre .2) _ _ (at-fill .fill .ensures) _ (at-get .get .ensures) some _ first,
+        le-trans (count-room _ (pre .0 .sound) _ (pre .1) (pre .2) _ _ (at-fill .fill .ensures) _ (at-get .get .ensures) some _ first) (pre .4),
+        delivered-most _ (pre .0 .sound) _ (pre .1) (pre .2) _ _ (at-fill .fill .ensures) _ (at-get .get .ensures) some,
       ),
     )
 
@@ -77,7 +77,7 @@ slice-reshare-prefix-figures-of c =
     let at-fill = at-get .before .before .before .before .before in
     let pre = at-fill .before .before .before .before .before .before .pre in
     let at-first = c .before .before .before .before .before in
-    let room = le-trans (count-room _ (pre .0 .valid) _ (pre .1) (pre .2) _ _ (at-fill .fill .ensures) _ (at-get .get .ensures) (c .before .before .before .before .before .before .before .before .before .if1 .left) _ (at-first .first-row .ensures)) (pre .4) in
+    let room = le-trans (count-room _ (pre .0 .sound) _ (pre .1) (pre .2) _ _ (at-fill .fill .ensures) _ (at-get .get .ensures) (c .before .before .before .before .before .before .before .before .before .if1 .left) _ (at-first .first-row .ensures)) (pre .4) in
     omega (arith, room, c .before .before .choose .kept)
 
 slice-aggregate-figures-of : tie.Need-slice-aggregate-figures-of
@@ -89,7 +89,7 @@ slice-aggregate-figures-of c =
     let first = c .before .before .before .before .before .before .first-row .ensures in
     let some = c .before .before .before .before .before .before .before .before .before .before .if1 .left in
     let written = c .before .before .before .choose .ensures in
-    sym (ap length (chain-front _ (pre .0 .valid) _ (pre .1) (pre .2) _ _ (at-fill .fill .ensures) _ (at-get .get .ensures) some _ first _ _ written) ∙ chain-long _ (pre .0 .valid) _ (pre .1) (pre .2) _ _ (at-fill .fill .ensures) _ (at-get .get .ensures) some _ first)
+    sym (ap length (chain-front _ (pre .0 .sound) _ (pre .1) (pre .2) _ _ (at-fill .fill .ensures) _ (at-get .get .ensures) some _ first _ _ written) ∙ chain-long _ (pre .0 .sound) _ (pre .1) (pre .2) _ _ (at-fill .fill .ensures) _ (at-get .get .ensures) some _ first)
 
 figures-of-requires : tie.Need-figures-of-requires
 unfolding neverWord
@@ -100,10 +100,10 @@ figures-of-requires c κs =
     let first = c .before .before .before .before .before .before .first-row .ensures in
     let some = c .before .before .before .before .before .before .before .before .before .before .if1 .left in
     let written = c .before .before .before .choose .ensures in
-    (pre .0, chain-named _ (pre .0 .valid) _ (pre .1) (pre .2) _ _ (at-fill .fill .ensures) _ (at-get .get .ensures) some _ first _ _ written, pre .1, chain-some _ (pre .0 .valid) _ (pre .1) (pre .2) _ _ (at-fill .fill .ensures) _ (at-get .get .ensures) some _ first _ _ written)
+    (pre .0, chain-named _ (pre .0 .sound) _ (pre .1) (pre .2) _ _ (at-fill .fill .ensures) _ (at-get .get .ensures) some _ first _ _ written, pre .1, chain-some _ (pre .0 .sound) _ (pre .1) (pre .2) _ _ (at-fill .fill .ensures) _ (at-get .get .ensures) some _ first _ _ written)
 
 same-length-3 : tie.Need-same-length-3
-same-length-3 c = c .before .before .before .before .before .before .before .before .before .before .before .before .before .before .before .before .before .fill .kept .1 .1 .1 .1 .1 .0
+same-length-3 c = c .before .before .before .before .before .before .before .before .before .before .before .before .before .before .before .before .before .fill .kept .1 .1 .1 .1 .0
 
 same-length-4 : tie.Need-same-length-4
 same-length-4 c = search needs
@@ -117,7 +117,7 @@ returns-3 c =
     let first = c .before .before .before .before .before .before .before .first-row .ensures in
     let some = c .before .before .before .before .before .before .before .before .before .before .before .if1 .left in
     let written = c .before .before .before .before .choose .ensures in
-    route-best _ (pre .0 .valid) _ (pre .1) (pre .2) _ _ (at-fill .fill .ensures) _ (at-get .get .ensures) some _ first _ _ written _ (c .before .before .before .before .before .before .before .before .before .if2 .left) (c .figures-of .ensures)
+    route-best _ (pre .0 .sound) _ (pre .1) (pre .2) _ _ (at-fill .fill .ensures) _ (at-get .get .ensures) some _ first _ _ written _ (c .before .before .before .before .before .before .before .before .before .if2 .left) (c .figures-of .ensures)
 
 pub route-in-spec : {M : Type 1} → statement M
 route-in-spec =

@@ -1,17 +1,19 @@
 -- `search::routing::route_plan` meets its contract.
 -- Assumes nothing.
+use native.Mathlib.Omega.{arith}
 use borrow.Author.Needs.{needs}
-use Rattle.layers.proofs.FillCode.{blank-is}
+use Rattle.units.specs.Limits.{mostContacts}
 use Rattle.search.proofs.routing.route_plan.Statement.{statement}
 use Rattle.search.proofs.routing.route_plan.Tie as tie
 
-slice-aggregate-route-in : tie.Need-slice-aggregate-route-in
-slice-aggregate-route-in c = search needs
+slice-aggregate-route-through : tie.Need-slice-aggregate-route-through
+slice-aggregate-route-through c = search needs
 
-route-in-requires : tie.Need-route-in-requires
-route-in-requires c κs =
+route-through-requires : tie.Need-route-through-requires
+unfolding mostContacts
+route-through-requires c κs =
     let pre = c .before .before .before .before .before .pre in
-    (pre .0, pre .1, pre .2, blank-is, pre .3)
+    (pre .0, pre .1, pre .2, omega arith, pre .3)
 
 same-length : tie.Need-same-length
 same-length c = search needs
@@ -20,5 +22,4 @@ returns : tie.Need-returns
 returns c = search needs
 
 pub route-plan-spec : {M : Type 1} → statement M
-route-plan-spec =
-    tie.close (tie.spec slice-aggregate-route-in route-in-requires same-length returns)
+route-plan-spec = tie.close (tie.spec slice-aggregate-route-through route-through-requires same-length returns)

@@ -6,30 +6,30 @@ use native.Mathlib.Omega.{arith}
 use borrow.Author.Needs.{needs}
 use lib.ListN.{length, drop}
 use Rattle.units.specs.Limits.{lastTime, mostLight}
-use Rattle.plan.specs.Tables.{planOf}
+use Rattle.service.specs.Tables.{served}
 use Rattle.timing.specs.Model.{carry, deliveryOf}
 use Rattle.timing.proofs.ChainCode.{named-at-most, steps-in-plan, step-bounded, carry-stops, carry-ends, carry-misses, carry-lent}
 use Rattle.timing.proofs.chain.delivery.Statement.{statement}
 use Rattle.timing.proofs.chain.delivery.Tie as tie
 
 abbrev Inv-loop : tie.InvT-loop
-Inv-loop contacts contact-count ranges range-count ask chain node₀ ready₀ i₀ node ready i =
+Inv-loop contacts contact-count pairs ask chain node₀ ready₀ i₀ node ready i =
     (i ≤ length chain) × (ready .0 ≤ lastTime + mostLight)
-    × (deliveryOf (planOf contacts contact-count ranges range-count) ask chain
-    ≡ carry (planOf contacts contact-count ranges range-count) ask (node .0) (ready .0) (drop i chain))
+    × (deliveryOf (served contacts contact-count pairs) ask chain
+    ≡ carry (served contacts contact-count pairs) ask (node .0) (ready .0) (drop i chain))
 
 abbrev μ-loop : tie.MeasureT-loop
-μ-loop contacts contact-count ranges range-count ask chain node₀ ready₀ i₀ node ready i = length chain - i
+μ-loop contacts contact-count pairs ask chain node₀ ready₀ i₀ node ready i = length chain - i
 
 loop-holds : tie.Need-loop-holds Inv-loop μ-loop
 unfolding deliveryOf
 loop-holds c = let pre = c .before .before .before .before .before .pre in (omega arith, omega (arith, pre .2), refl)
 
-mul-t13 : tie.Need-mul-t13 Inv-loop μ-loop
-mul-t13 c = search needs
+mul-t12 : tie.Need-mul-t12 Inv-loop μ-loop
+mul-t12 c = search needs
 
-shared-slice-read-t16 : tie.Need-shared-slice-read-t16 Inv-loop μ-loop
-shared-slice-read-t16 c = search needs
+shared-slice-read-t15 : tie.Need-shared-slice-read-t15 Inv-loop μ-loop
+shared-slice-read-t15 c = search needs
 
 step-requires : tie.Need-step-requires Inv-loop μ-loop
 step-requires c κs =
@@ -57,7 +57,7 @@ contact-numbered-requires c κs =
     let at-loop = at-step .before .before .before in
     let pre = at-loop .before .before .before .before .before .before .pre in
     let named = steps-in-plan _ _ _ _ _ _ (sym (at-step .step .ensures) ∙ c .before .arrival .given .1) in
-    omega (arith, named .least, named-at-most _ _ _ _ _ named, pre .0 .contacts-lent)
+    omega (arith, named .least, named-at-most _ _ _ _ named, pre .0 .contacts-lent)
 
 add-i : tie.Need-add-i Inv-loop μ-loop
 add-i c =
@@ -75,8 +75,8 @@ loop-again c =
     let pre = at-loop .before .before .before .before .before .before .pre in
     let stepped = sym (at-step .step .ensures) ∙ at-row .before .before .arrival .given .1 in (
       omega arith,
-      step-bounded _ (pre .0 .valid) _ _ _ _ _ stepped,
-      at-loop .loop .inv .2 ∙ carry-lent _ _ _ _ _ _ _ _ _ _ _ (at-step .before .before .loop-test .taken) stepped (at-row .contact-numbered .ensures),
+      step-bounded _ (pre .0 .sound) _ _ _ _ _ stepped,
+      at-loop .loop .inv .2 ∙ carry-lent _ _ _ _ _ _ _ _ _ _ (at-step .before .before .loop-test .taken) stepped (at-row .contact-numbered .ensures),
     )
 
 returns-2 : tie.Need-returns-2 Inv-loop μ-loop
@@ -96,8 +96,8 @@ delivery-spec =
     Inv-loop
     μ-loop
     loop-holds
-    mul-t13
-    shared-slice-read-t16
+    mul-t12
+    shared-slice-read-t15
     step-requires
     enum-known-arrival
     enum-told

@@ -15,7 +15,7 @@ use Rattle.walk.proofs.last_call.+limit_part.{statement}
 use Rattle.walk.proofs.last_call.+limit_part.Tie.{close}
 
 abbrev μ-limit-part : Measures 3 limit-part-kinds.ps ℕ
-μ-limit-part κs a = a .1 .1 .1 .1 .1 .1 .1 .0
+μ-limit-part κs a = a .1 .1 .1 .1 .1 .1 .0
 
 abbrev limit-part-at : ℕ → In 3 limit-part-kinds.ps
 limit-part-at t =
@@ -41,29 +41,29 @@ limit-part-sub-last : (t : ℕ) → limit-part-lts.Need-sub-last (
 ) (limit-part-at t) limit-part.Post
 limit-part-sub-last t c = omega arith
 
-limit-part-add-t14 : (t : ℕ) → limit-part-lts.Need-add-t14 (
+limit-part-add-t13 : (t : ℕ) → limit-part-lts.Need-add-t13 (
   back-over-reads.Asked,
   back-over-reads.Learnt,
   limit-part-below t,
   limit-part.Post,
 ) (limit-part-at t) limit-part.Post
-limit-part-add-t14 t c = let start = c .before .before .before .before in omega (arith, start .pre .1 .3, start .good)
+limit-part-add-t13 t c = let start = c .before .before .before .before in omega (arith, start .pre .1 .3, start .good)
 
-limit-part-mul-t15 : (t : ℕ) → limit-part-lts.Need-mul-t15 (
+limit-part-mul-t14 : (t : ℕ) → limit-part-lts.Need-mul-t14 (
   back-over-reads.Asked,
   back-over-reads.Learnt,
   limit-part-below t,
   limit-part.Post,
 ) (limit-part-at t) limit-part.Post
-limit-part-mul-t15 t c = search needs
+limit-part-mul-t14 t c = search needs
 
-limit-part-shared-slice-read-t17 : (t : ℕ) → limit-part-lts.Need-shared-slice-read-t17 (
+limit-part-shared-slice-read-t16 : (t : ℕ) → limit-part-lts.Need-shared-slice-read-t16 (
   back-over-reads.Asked,
   back-over-reads.Learnt,
   limit-part-below t,
   limit-part.Post,
 ) (limit-part-at t) limit-part.Post
-limit-part-shared-slice-read-t17 t c = let start = c .before .before .before .before .before in omega (arith, start .pre .1 .3, c .before .if1 .left)
+limit-part-shared-slice-read-t16 t c = let start = c .before .before .before .before .before in omega (arith, start .pre .1 .3, c .before .if1 .left)
 
 limit-part-back-over-requires : (t : ℕ) → limit-part-lts.Need-back-over-requires (
   back-over-reads.Asked,
@@ -108,9 +108,9 @@ pub +limit-part-spec : {M : Type 1} → statement M
     limit-part.Post
     (limit-part-returns t)
     (limit-part-sub-last t)
-    (limit-part-add-t14 t)
-    (limit-part-mul-t15 t)
-    (limit-part-shared-slice-read-t17 t)
+    (limit-part-add-t13 t)
+    (limit-part-mul-t14 t)
+    (limit-part-shared-slice-read-t16 t)
     (limit-part-back-over-requires t)
     (limit-part-limit-part-requires t)
     (limit-part-returns-2 t)

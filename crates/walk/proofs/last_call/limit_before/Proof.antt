@@ -6,20 +6,20 @@ use native.Mathlib.Omega.{arith}
 use borrow.Author.Needs.{needs}
 use lib.ListN.{length, take}
 use lib.Seq.{take-length}
-use Rattle.plan.specs.Tables.{planOf}
+use Rattle.service.specs.Tables.{served}
 use Rattle.walk.specs.Model.{limitBefore}
 use Rattle.walk.proofs.LastCallCode.{part-none, whole-part}
 use Rattle.walk.proofs.last_call.limit_before.Statement.{statement}
 use Rattle.walk.proofs.last_call.limit_before.Tie as tie
 
 abbrev Inv-loop : tie.InvT-loop
-Inv-loop contacts contact-count ranges range-count ask chain before₀ end₀ before end =
+Inv-loop contacts contact-count pairs ask chain before₀ end₀ before end =
     (end ≤ length chain)
-    × (limitBefore (planOf contacts contact-count ranges range-count) ask chain (before₀ .0)
-    ≡ limitBefore (planOf contacts contact-count ranges range-count) ask (take end chain) (before .0))
+    × (limitBefore (served contacts contact-count pairs) ask chain (before₀ .0)
+    ≡ limitBefore (served contacts contact-count pairs) ask (take end chain) (before .0))
 
 abbrev μ-loop : tie.MeasureT-loop
-μ-loop contacts contact-count ranges range-count ask chain before₀ end₀ before end = end
+μ-loop contacts contact-count pairs ask chain before₀ end₀ before end = end
 
 loop-holds : tie.Need-loop-holds Inv-loop μ-loop
 loop-holds c = (omega arith, rw take-length)

@@ -5,20 +5,20 @@ use Prim.Native.Nat.{ℕ, _-_, _^_, _≤_}
 use native.Mathlib.Omega.{arith}
 use borrow.Author.Needs.{needs}
 use Rattle.units.specs.Limits.{mostSize}
-use Rattle.plan.specs.Tables.{planOf}
+use Rattle.service.specs.Tables.{served}
 use Rattle.walk.specs.Model.{roomFrom, roomOf}
 use Rattle.walk.proofs.RoomCode.{halved, bit-most, raised-most, room-begins, room-goes, room-ends}
 use Rattle.walk.proofs.room.room.Statement.{statement}
 use Rattle.walk.proofs.room.room.Tie as tie
 
 abbrev Inv-loop : tie.InvT-loop
-Inv-loop contacts contact-count ranges range-count ask chain size₀ bit₀ bits₀ size bit bits =
+Inv-loop contacts contact-count pairs ask chain size₀ bit₀ bits₀ size bit bits =
     (bits ≤ 30) × (bit ≡ 2 ^ bits) × (size ≤ mostSize)
-    × (roomOf (planOf contacts contact-count ranges range-count) ask chain
-    ≡ roomFrom (planOf contacts contact-count ranges range-count) ask chain size bits)
+    × (roomOf (served contacts contact-count pairs) ask chain
+    ≡ roomFrom (served contacts contact-count pairs) ask chain size bits)
 
 abbrev μ-loop : tie.MeasureT-loop
-μ-loop contacts contact-count ranges range-count ask chain size₀ bit₀ bits₀ size bit bits = bits
+μ-loop contacts contact-count pairs ask chain size₀ bit₀ bits₀ size bit bits = bits
 
 loop-holds : tie.Need-loop-holds Inv-loop μ-loop
 loop-holds c = (omega arith, refl, omega arith, room-begins _ _ _)

@@ -5,6 +5,8 @@ use borrow.Author.Needs.{needs}
 use borrow.Author.Tests.{not-true, not-false}
 use Rattle.plan.proofs.Verdicts.{true-holds, false-fails}
 use Rattle.walk.specs.Walk.{WalksPlan, no-plan, bad-ask, same-node, walked}
+use Rattle.service.specs.Service.{unused}
+use Rattle.service.proofs.ServiceLaws.{service-sound}
 use Rattle.walk.proofs.Theorems.{walk-model-walks}
 use Rattle.walk.proofs.WalkCode.{goodAsk-tells}
 use Rattle.walk.proofs.walking.walk.Statement.{statement}
@@ -44,7 +46,7 @@ returns-4 c =
     let plan = true-holds (at-ask .before .before .is-plan .ensures) (not-false _ (at-ask .before .if1 .left)) in
     let good = true-holds (goodAsk-tells _) (sym (at-ask .is-good-ask .ensures) ∙ not-false _ (c .before .before .before .if2 .left)) in
     walked plan good (c .before .if3 .left)
-    (subst (WalksPlan _ _ _) (sym (c .walk-plan .ensures)) (walk-model-walks _ _ _ (plan .valid) good (c .before .if3 .left)))
+    (subst (WalksPlan _ _ _) (sym (c .walk-plan .ensures)) (walk-model-walks _ _ _ (service-sound _ (plan .valid) unused) good (c .before .if3 .left)))
 
 pub walk-spec : {M : Type 1} → statement M
 walk-spec =

@@ -1,46 +1,22 @@
 -- `walk::walking::walk_plan` meets its contract.
 -- Assumes nothing.
-use mathlib.Core.Path.{sym, _∙_}
+use native.Mathlib.Omega.{arith}
 use borrow.Author.Needs.{needs}
-use Rattle.timing.proofs.ChainLaws.{allowed-delivery}
-use Rattle.walk.proofs.LastCallCode.{carries-named}
-use Rattle.walk.proofs.WalkCode.{walk-never, walk-late, walk-carries}
+use Rattle.units.specs.Limits.{mostContacts}
 use Rattle.walk.proofs.walking.walk_plan.Statement.{statement}
 use Rattle.walk.proofs.walking.walk_plan.Tie as tie
 
-delivery-requires : tie.Need-delivery-requires
-delivery-requires c κs = search needs
+slice-aggregate-walk-through : tie.Need-slice-aggregate-walk-through
+slice-aggregate-walk-through c = search needs
 
-enum-known-arrival : tie.Need-enum-known-arrival
-enum-known-arrival c = search needs
-
-enum-told : tie.Need-enum-told
-enum-told c = search needs
+walk-through-requires : tie.Need-walk-through-requires
+unfolding mostContacts
+walk-through-requires c κs =
+    let pre = c .before .before .before .before .pre in
+    (pre .0, pre .1, pre .2, omega arith)
 
 returns : tie.Need-returns
-returns c = walk-never _ _ _ (sym (c .before .before .delivery .ensures) ∙ c .enum-told .given .1)
-
-figures-of-requires : tie.Need-figures-of-requires
-figures-of-requires c κs =
-    let at-arrival = c .before .before .before .before in
-    let at-delivery = at-arrival .before .before in
-    let pre = at-delivery .before .before .before .before .pre in
-    let allowed = allowed-delivery _ _ (pre .2) _ _ .0 (sym (at-delivery .delivery .ensures) ∙ at-arrival .arrival .given .1) in
-    (pre .0, carries-named _ _ (allowed .carried), pre .1, allowed .some-contact)
-
-returns-2 : tie.Need-returns-2
-returns-2 c =
-    let at-arrival = c .before .before .before .before .before in
-    let delivered = sym (at-arrival .before .before .delivery .ensures) ∙ at-arrival .arrival .given .1 in
-    walk-carries _ _ _ _ _ delivered (c .before .if1 .taken) (c .figures-of .ensures)
-
-returns-3 : tie.Need-returns-3
-returns-3 c =
-    let at-arrival = c .before .before .before .before in
-    let delivered = sym (at-arrival .before .before .delivery .ensures) ∙ at-arrival .arrival .given .1 in
-    walk-late _ _ _ _ delivered (c .if1 .left)
+returns c = search needs
 
 pub walk-plan-spec : {M : Type 1} → statement M
-walk-plan-spec =
-    tie.close
-    (tie.spec delivery-requires enum-known-arrival enum-told returns figures-of-requires returns-2 returns-3)
+walk-plan-spec = tie.close (tie.spec slice-aggregate-walk-through walk-through-requires returns)

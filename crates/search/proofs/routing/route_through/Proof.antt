@@ -1,0 +1,41 @@
+-- `search::routing::route_through` meets its contract.
+-- Assumes nothing.
+use native.Mathlib.Omega.{arith}
+use borrow.Author.Needs.{needs}
+use Rattle.plan.proofs.Lent.{contacts-counted}
+use Rattle.service.proofs.ServiceLaws.{is-service}
+use Rattle.search.proofs.RouteCode.{route-serves}
+use Rattle.search.proofs.routing.route_through.Statement.{statement}
+use Rattle.search.proofs.routing.route_through.Tie as tie
+
+serve-requires : tie.Need-serve-requires
+serve-requires c κs =
+    let pre = c .before .before .before .before .before .pre in
+    let few = contacts-counted _ _ _ _ (pre .0) in
+    (pre .0, omega (arith, few, pre .3))
+
+route-served-requires : tie.Need-route-served-requires
+route-served-requires c κs =
+    let at-serve = c .before .before .before .before in
+    let pre = at-serve .before .before .before .before .before .before .pre in
+    let few = contacts-counted _ _ _ _ (pre .0) in (
+      is-service _ _ _ _ _ _ (pre .0) (omega (arith, few, pre .3, at-serve .serve .ensures .1)) (at-serve .serve .ensures .0),
+      pre .1,
+      pre .2,
+      pre .4,
+    )
+
+same-length : tie.Need-same-length
+same-length c = search needs
+
+same-length-2 : tie.Need-same-length-2
+same-length-2 c = search needs
+
+returns : tie.Need-returns
+returns c =
+    let at-serve = c .before .before .before .before .before .before .before in
+    route-serves _ _ (at-serve .before .before .before .before .before .before .args .ask) _ _ _ (at-serve .serve .ensures .0)
+    (c .before .before .route-served .ensures)
+
+pub route-through-spec : {M : Type 1} → statement M
+route-through-spec = tie.close (tie.spec serve-requires route-served-requires same-length same-length-2 returns)

@@ -1,0 +1,4 @@
+-- The laws of a service. The files named Code are what the proofs of the functions know.
+pub mod PairsCode
+pub mod ServiceLaws
+mod ServingCode

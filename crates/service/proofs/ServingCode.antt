@@ -1,0 +1,137 @@
+-- What the code that fills the pairs of words knows of the plan.
+--     volume-room                  the product that a volume is made of has room in a word
+--     ranged-word, unranged-word   the word of a light time, and of none
+--     row-good, light-in-range     a row of the plan is a good contact, and its light time is in its range
+--     Paired                       the pair beside a row says its light time and its volume
+--     stored-long                  a pair stored leaves the length
+--     paired-more, paired-all      one row more, and all rows: the tables hold the service
+-- Assumes nothing.
+use mathlib.Core.List.{List, map}
+use mathlib.Core.Logic.{⊎-elim}
+use mathlib.Core.Path.{_≡_, refl, sym, ap, _∙_, subst}
+use Prim.Native.Nat.{ℕ, _+_, _-_, _*_, _≤_, _<_}
+use native.Mathlib.Nat.{zero-add, sub-zero, mul-le-mul, eq-or-lt-of-le}
+use native.Mathlib.Omega.{arith}
+use lib.ListN.{length, getD, set, length-set, length-map}
+use lib.Seq.{ext-getD, getD-set-same, getD-set-other}
+use Rattle.units.specs.Limits.{lastTime, mostRate, mostLight}
+use Rattle.units.specs.declared.Millis.{Millis}
+use Rattle.plan.specs.declared.rows.Contact.{Contact}
+use Rattle.plan.specs.declared.rows.Range.{Range}
+use Rattle.plan.specs.declared.light.Light.{Light}
+use Rattle.plan.specs.declared.light.Light.the-variants.{Of, Unranged}
+use Rattle.plan.specs.Light.{lightOf}
+use Rattle.plan.specs.Plan.{GoodContact, Each}
+use Rattle.plan.specs.Tables.{contactAt, rangeAt, rowsFrom, planOf, IsPlan}
+use Rattle.plan.proofs.RowList.{length-rows, getD-rows}
+use Rattle.service.specs.Service.{blank, volume, leftsFrom, serviceOf, unused, LightGood}
+use Rattle.service.specs.Tables.{pairWords, unranged, lightWord, lightAt, leftAt, served}
+use Rattle.service.proofs.PairsCode.{word-unranged, word-ranged}
+use Rattle.service.proofs.ServiceLaws.{getD-mapped, length-lefts, getD-lefts, light-good}
+
+pub volume-room : (c : Contact) → GoodContact c → c .rate * (c .end .0 - c .start .0) < 18_446_744_073_709_551_616
+unfolding lastTime mostRate
+volume-room c g =
+    let most : c .rate * (c .end .0 - c .start .0) ≤ mostRate * lastTime = mul-le-mul {m₂ = lastTime} (g .rate-most) (omega (arith, g .ends)) in
+    omega arith
+
+pub ranged-word : (light : Light) (l : Millis) → LightGood light → light ≡ Of l → lightWord (l .0) ≡ light
+unfolding mostLight unranged
+ranged-word light l good e =
+    let most : l .0 ≤ mostLight = subst LightGood e good in
+    sym (word-ranged (l .0) (λ z. omega arith)) ∙ sym e
+
+pub unranged-word : (light : Light) → light ≡ Unranged → lightWord unranged ≡ light
+unranged-word light e = sym (word-unranged unranged refl) ∙ sym e
+
+-- the contact in a row of the plan
+module _ (contacts : List ℕ) (m k : ℕ) (h : k < m) where
+  row-at : getD (rowsFrom (contactAt contacts) 0 m) k blank ≡ contactAt contacts k
+  row-at = getD-rows (contactAt contacts) 0 m k blank h ∙ ap (contactAt contacts) (zero-add k)
+
+  row-below : k < length (rowsFrom (contactAt contacts) 0 m)
+  row-below = subst (λ (l : ℕ). k < l) (sym (length-rows (contactAt contacts) 0 m)) h
+
+pub row-good : (contacts : List ℕ) (m : ℕ) (ranges : List ℕ) (n : ℕ) → IsPlan contacts m ranges n → (k : ℕ) → k < m → (c : Contact) → c ≡ contactAt contacts k
+    → GoodContact c
+unfolding Each planOf
+row-good contacts m ranges n plan k h c e =
+    subst GoodContact (row-at contacts m k h ∙ sym e) (plan .valid .contacts-good blank k (row-below contacts m k h))
+
+pub light-in-range : (contacts : List ℕ) (m : ℕ) (ranges : List ℕ) (n : ℕ) → IsPlan contacts m ranges n → (c : Contact) (light : Light)
+    → light ≡ lightOf (rowsFrom (rangeAt ranges) 0 n) c → LightGood light
+unfolding planOf
+light-in-range contacts m ranges n plan c light e = subst LightGood (sym e) (light-good (planOf contacts m ranges n) (plan .valid) c)
+
+-- the pair beside row k says its light time and its volume
+pub record Paired (contacts : List ℕ) (rs : List Range) (pairs : List ℕ) (k : ℕ) : Type 0 where
+  pub light : lightAt pairs k ≡ lightOf rs (contactAt contacts k)
+  pub left : leftAt pairs k ≡ volume (contactAt contacts k)
+
+module _ (pairs : List ℕ) (k word left : ℕ) where
+  abbrev half : List ℕ
+  half = set pairs (k * pairWords) word
+
+  abbrev stored : List ℕ
+  stored = set half (k * pairWords + 1) left
+
+  pub stored-long : (l : ℕ) → length pairs ≡ l → (pairs′ : List ℕ) → pairs′ ≡ stored → length pairs′ ≡ l
+  stored-long l long pairs′ e = rw e (simp length-set long)
+
+  word-earlier : (i : ℕ) → i < k * pairWords → getD stored i 0 ≡ getD pairs i 0
+  word-earlier i h =
+      getD-set-other half (k * pairWords + 1) i left 0 (omega arith) ∙ getD-set-other pairs (k * pairWords) i word 0 (omega arith)
+
+  module _ (contacts : List ℕ) (rs : List Range) where
+    paired-earlier : (j : ℕ) → j < k → Paired contacts rs pairs j → Paired contacts rs stored j
+    paired-earlier j h p = record {
+      light = ap lightWord (word-earlier (j * pairWords) (omega arith)) ∙ p .light;
+      left = word-earlier (j * pairWords + 1) (omega arith) ∙ p .left;
+    }
+
+    module _ (room : k * pairWords + pairWords ≤ length pairs) (c : Contact) (light : Light) (ec : c ≡ contactAt contacts k) (el : light ≡ lightOf rs c)
+        (ew : lightWord word ≡ light) (ef : left ≡ volume c) where
+      paired-there : Paired contacts rs stored k
+      paired-there =
+          let first : getD stored (k * pairWords) 0 ≡ word =
+          getD-set-other half (k * pairWords + 1) (k * pairWords) left 0 (omega arith) ∙ getD-set-same pairs (k * pairWords) word 0 (omega arith) in
+          record {
+            light = ap lightWord first ∙ ew ∙ el ∙ ap (lightOf rs) ec;
+            left = getD-set-same half (k * pairWords + 1) left 0 (simp length-set (omega arith)) ∙ ef ∙ ap volume ec;
+          }
+
+      pub paired-more : ((j : ℕ) → j < k → Paired contacts rs pairs j) → (pairs′ : List ℕ) → pairs′ ≡ stored → (j : ℕ) → j < k + 1 → Paired contacts rs pairs′ j
+      paired-more before pairs′ e j h =
+          let at-most : j ≤ k = omega arith in
+          subst (λ (t : List ℕ). Paired contacts rs t j) (sym e)
+          (⊎-elim (λ s. subst (Paired contacts rs stored) (sym s) paired-there) (λ l. paired-earlier j l (before j l)) (eq-or-lt-of-le at-most))
+
+-- rows that a list has one by one are that list
+rows-are : {A : Type 0} (row : ℕ → A) (n : ℕ) (xs : List A) (d : A) → length xs ≡ n → ((k : ℕ) → k < n → row k ≡ getD xs k d) → rowsFrom row 0 n ≡ xs
+rows-are row n xs d long same =
+    ext-getD d (rowsFrom row 0 n) xs (length-rows row 0 n ∙ sym long)
+    (λ k h.
+    let below : k < n = rw (length-rows row 0 n) at h in
+    getD-rows row 0 n k d below ∙ ap row (zero-add k) ∙ same k below)
+
+module _ (contacts : List ℕ) (m : ℕ) (ranges : List ℕ) (n : ℕ) (pairs : List ℕ) where
+  pub paired-all : ((j : ℕ) → j < m → Paired contacts (rowsFrom (rangeAt ranges) 0 n) pairs j)
+      → served contacts m pairs ≡ serviceOf (planOf contacts m ranges n) unused
+  unfolding served serviceOf planOf
+  paired-all all = λ i. record { contacts = rows; lights = lights-held i; lefts = lefts-held i }
+    where
+      rows : List Contact
+      rows = rowsFrom (contactAt contacts) 0 m
+
+      light : Contact → Light
+      light = lightOf (rowsFrom (rangeAt ranges) 0 n)
+
+      lights-held : rowsFrom (lightAt pairs) 0 m ≡ map light rows
+      lights-held =
+          rows-are (lightAt pairs) m (map light rows) Unranged (length-map rows light ∙ length-rows (contactAt contacts) 0 m)
+          (λ k h. all k h .light ∙ sym (getD-mapped light rows k blank Unranged (row-below contacts m k h) ∙ ap light (row-at contacts m k h)))
+
+      lefts-held : rowsFrom (leftAt pairs) 0 m ≡ leftsFrom unused 1 rows
+      lefts-held =
+          rows-are (leftAt pairs) m (leftsFrom unused 1 rows) 0 (length-lefts unused 1 rows ∙ length-rows (contactAt contacts) 0 m)
+          (λ k h. all k h .left ∙ sym (getD-lefts unused 1 rows k (row-below contacts m k h) ∙ sub-zero (volume (getD rows k blank)) ∙ ap volume (row-at contacts m k h)))

@@ -1,0 +1,65 @@
+// A plan made ready to serve: each contact's light time and its volume, worked out once.
+use crate::pairs::PAIR_WORDS;
+use crate::pairs::UNRANGED;
+use plan::Contact;
+use plan::Light;
+use plan::contact_row;
+use plan::light_time;
+ghost use mathlib.Core.Path.{_≡_};
+ghost use Prim.Native.Nat.{_+_, _*_, _≤_};
+ghost use lib.ListN.{length, set};
+ghost use Rattle.plan.specs.Plan.{GoodContact};
+ghost use Rattle.plan.specs.Tables.{IsPlan, planOf};
+ghost use Rattle.service.specs.Service.{volume, serviceOf, unused, LightGood};
+ghost use Rattle.service.specs.Tables.{pairWords, lightWord, served};
+
+// The bytes that the contact carries in all.
+fn volume_of(c: Contact) -> u64
+    requires { ⌜ GoodContact c ⌝ }
+    ensures { λ r. ⌜ r ≡ volume c ⌝ }
+{
+    c.rate * (c.end.0 - c.start.0) / 1000
+}
+
+// The word that stands for the light time.
+fn word_of(light: Light) -> u64
+    requires { ⌜ LightGood light ⌝ }
+    ensures { λ r. ⌜ lightWord r ≡ light ⌝ }
+{
+    match light {
+        Light::Of(l) => l.0,
+        Light::Unranged => UNRANGED,
+    }
+}
+
+// The pair of words of row k, counted from 0.
+fn put_pair(pairs: &mut [u64], k: usize, word: u64, left: u64)
+    requires { ⌜ k * pairWords + pairWords ≤ length (now pairs) ⌝ }
+    ensures { λ _. ⌜ now (pairs .exit) ≡ set (set (now (pairs .entry)) (k * pairWords) word) (k * pairWords + 1) left ⌝ }
+{
+    let at = k * PAIR_WORDS;
+    pairs[at] = word;
+    pairs[at + 1] = left;
+}
+
+// Fills the pairs with the plan as it serves an ask, where nothing is used.
+pub fn serve(
+    contacts: &[u64],
+    contact_count: usize,
+    ranges: &[u64],
+    range_count: usize,
+    pairs: &mut [u64],
+)
+    requires { ⌜ IsPlan (now contacts) «contact_count» (now ranges) «range_count» × («contact_count» * pairWords ≤ length (now pairs)) ⌝ }
+    ensures { λ _. ⌜ (served (now (contacts .entry)) «contact_count» (now (pairs .exit)) ≡ serviceOf (planOf (now (contacts .entry)) «contact_count» (now (ranges .entry)) «range_count») unused) × (length (now (pairs .exit)) ≡ length (now (pairs .entry))) ⌝ }
+{
+    let mut k: usize = 0;
+    while k < contact_count {
+        let c = contact_row(contacts, k);
+        let light = light_time(ranges, range_count, c);
+        let word = word_of(light);
+        let left = volume_of(c);
+        put_pair(pairs, k, word, left);
+        k += 1;
+    }
+}

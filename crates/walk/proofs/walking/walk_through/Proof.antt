@@ -1,0 +1,36 @@
+-- `walk::walking::walk_through` meets its contract.
+-- Assumes nothing.
+use native.Mathlib.Omega.{arith}
+use borrow.Author.Needs.{needs}
+use Rattle.plan.proofs.Lent.{contacts-counted}
+use Rattle.service.proofs.ServiceLaws.{is-service}
+use Rattle.walk.proofs.WalkCode.{walk-serves}
+use Rattle.walk.proofs.walking.walk_through.Statement.{statement}
+use Rattle.walk.proofs.walking.walk_through.Tie as tie
+
+serve-requires : tie.Need-serve-requires
+serve-requires c κs =
+    let pre = c .before .before .before .before .before .pre in
+    let few = contacts-counted _ _ _ _ (pre .0) in
+    (pre .0, omega (arith, few, pre .3))
+
+walk-served-requires : tie.Need-walk-served-requires
+walk-served-requires c κs =
+    let at-serve = c .before .before .before in
+    let pre = at-serve .before .before .before .before .before .before .pre in
+    let few = contacts-counted _ _ _ _ (pre .0) in (
+      is-service _ _ _ _ _ _ (pre .0) (omega (arith, few, pre .3, at-serve .serve .ensures .1)) (at-serve .serve .ensures .0),
+      pre .1,
+      pre .2,
+    )
+
+same-length : tie.Need-same-length
+same-length c = search needs
+
+returns : tie.Need-returns
+returns c =
+    let at-serve = c .before .before .before .before in
+    walk-serves _ _ (at-serve .before .before .before .before .before .before .args .ask) _ _ (at-serve .serve .ensures .0) (c .walk-served .ensures)
+
+pub walk-through-spec : {M : Type 1} → statement M
+walk-through-spec = tie.close (tie.spec serve-requires walk-served-requires same-length returns)
