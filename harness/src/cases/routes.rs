@@ -1,0 +1,57 @@
+//! What `route` is given: a plan, an ask, and places for the chain.
+
+use second::cases::asks;
+use second::cases::draft::Draft;
+use second::random::Random;
+use second::refusal::{Refusal, NO_ALLOWED_CHAIN};
+use second::route::Network;
+use second::router::Router;
+use second::units::LONGEST_BEST;
+use second::Ask;
+
+use super::{plain_tables, plans, tables, words, Given};
+
+pub fn given(random: &mut Random, turn: u64) -> Given {
+    if turn == 0 {
+        return longest(random);
+    }
+    let draft = plans::some(random, 6);
+    let mut ask = some_ask(random, &draft);
+    if random.percent(12) {
+        ask = asks::at_limits(random, &ask);
+    }
+    let tables = tables::some(random, &draft, 10);
+    let places = match random.below(100) {
+        0..=2 => random.index(LONGEST_BEST),
+        3..=5 => LONGEST_BEST - 1,
+        6..=29 => LONGEST_BEST + random.index(40),
+        _ => LONGEST_BEST,
+    };
+    Given::route(tables, ask, words(random, places))
+}
+
+/// The full plan through which a best chain has 63 contacts.
+pub fn longest(random: &mut Random) -> Given {
+    let tables = plain_tables(&plans::full_line());
+    let places = words(random, LONGEST_BEST);
+    Given::route(tables, plans::FULL_LINE_ASK, places)
+}
+
+/// An ask: the first that comes, or the first of many for which a chain is
+/// allowed; at times with one value at the edge of what the answer says.
+fn some_ask(random: &mut Random, draft: &Draft) -> Ask {
+    let network = Network::prepare(&draft.plan());
+    let mut tries = random.pick(&[1, 1, 6, 6]);
+    loop {
+        let ask = asks::ask(random, draft);
+        let answer = ask.check().and_then(|good| network.best(&good));
+        tries -= 1;
+        match answer {
+            Err(refusal) if tries > 0 && refusal == Refusal::bare(NO_ALLOWED_CHAIN) => {}
+            Ok(best) if random.percent(60) => {
+                return asks::around(random, &ask, &best, draft);
+            }
+            _ => return ask,
+        }
+    }
+}

@@ -1,0 +1,52 @@
+//! Makes a call and compares what it gives with what is wanted.
+
+use std::fmt::Display;
+
+use crate::call::{Call, Memory};
+use crate::lent::Lent;
+use crate::wanted::{wanted, Wanted};
+
+pub struct Checked {
+    pub wanted: Wanted,
+    /// What is not as it must be, said shortly.
+    pub differences: Vec<String>,
+}
+
+pub fn check(call: &mut Call) -> Checked {
+    let wanted = wanted(call);
+    let returned = call.perform();
+    let mut differences = Vec::new();
+    if returned != wanted.returned {
+        let number = wanted.returned;
+        differences.push(format!("returned {returned}, not {number}"));
+    }
+    compare(&call.memory, &wanted.memory, &mut differences);
+    Checked {
+        wanted,
+        differences,
+    }
+}
+
+/// Compares all lent memory and its guards.
+fn compare(found: &Memory, wanted: &Memory, differences: &mut Vec<String>) {
+    let mut all = [
+        first_difference("answer", &found.answer, &wanted.answer),
+        first_difference("chain", &found.chain, &wanted.chain),
+        first_difference("contacts", &found.contacts, &wanted.contacts),
+        first_difference("ranges", &found.ranges, &wanted.ranges),
+        first_difference("bytes", &found.bytes, &wanted.bytes),
+    ];
+    differences.extend(all.iter_mut().filter_map(Option::take));
+}
+
+fn first_difference<T: Copy + PartialEq + Display>(
+    name: &str,
+    found: &Lent<T>,
+    wanted: &Lent<T>,
+) -> Option<String> {
+    let (place, found_there, wanted_there) = found.first_difference(wanted)?;
+    let length = found.len();
+    Some(format!(
+        "{name}[{place}] of {length} holds {found_there}, not {wanted_there}"
+    ))
+}
