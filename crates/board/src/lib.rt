@@ -2,12 +2,12 @@
 // slice is a pointer and a length. include/oivarnum.h declares the functions for C.
 mod answer;
 mod asking;
-mod reading;
-mod routing;
-mod walking;
-mod writing;
+mod reads;
+mod routes;
+mod walks;
+mod writes;
 
-pub use reading::oivarnum_read;
-pub use routing::oivarnum_route;
-pub use walking::oivarnum_walk;
-pub use writing::oivarnum_write;
+pub use reads::oivarnum_read;
+pub use routes::oivarnum_route;
+pub use walks::oivarnum_walk;
+pub use writes::oivarnum_write;

@@ -1,6 +1,7 @@
 -- What the public call and the function with the local tables know of the promise.
 --     gives-counts, copied-rows, copied-refused      from the local tables into the lent ones
---     header-there, headless-read, body-read         the text, by its header
+--     header-short, header-whole, header-there       whether the text begins with the header
+--     headless-read, body-read                       the text, by its header
 -- Assumes nothing.
 use mathlib.Core.Bool.{Bool, true, false}
 use mathlib.Core.List.{List, _++_}
@@ -29,6 +30,7 @@ use Rattle.taking.specs.Tables as given
 use Rattle.taking.specs.Tables.{Gives}
 use Rattle.parse.specs.Tables as inside
 use Rattle.parse.specs.Tables.{Copied}
+use Rattle.lines.proofs.BytesCode.{same-unlike}
 use Rattle.text.proofs.Shapes.{same-tells}
 use Rattle.plan.proofs.RowList.{rows-agree}
 use Rattle.text.proofs.Theorems.{model-reads}
@@ -102,6 +104,13 @@ module _ (o : Outcome) (passes lights : List ℕ) (answer : PlanRead) (gives : G
     copied-refused why e = inside.refused why (gives-refused why e) refl refl
 
 -- ---- the text
+
+pub header-short : (text : List ℕ) → length text < 7 → false ≡ same (take (length header) text) header
+unfolding header
+header-short text h = sym (same-unlike (take (length header) text) header (λ e. omega (arith, length-take 7 text)))
+
+pub header-whole : (text : List ℕ) → 7 ≤ length text → 7 ≡ length (take 7 text)
+header-whole text h = rw length-take (omega arith)
 
 module _ (text : List ℕ) where
   pub header-there : (b : Bool) → b ≡ same (take (length header) text) header → b ≡ true → length header ≤ length text

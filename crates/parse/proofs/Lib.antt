@@ -1,3 +1,2 @@
 -- What the code of `read` knows of the model and of the promise.
 pub mod CallCode
-pub mod ReadCode

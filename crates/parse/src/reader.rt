@@ -1,10 +1,8 @@
 // The public call `read`: a plan text into lent tables.
-use lines::find;
 use lines::is_same;
-use lines::said_by;
 use plan::WORDS;
+use reading::read_lines;
 use taking::copy_words;
-use taking::take_said;
 use text::PlanRead;
 use units::MOST_CONTACTS;
 use units::MOST_RANGES;
@@ -19,11 +17,8 @@ ghost use Rattle.text.specs.Calls.{Reads};
 ghost use Rattle.text.specs.Lines.{linesOf};
 ghost use Rattle.text.specs.Model.{readLines, noRows, same};
 ghost use Rattle.text.specs.Rows.{header};
-ghost use Rattle.taking.specs.Tables.{Gives};
 ghost use Rattle.parse.specs.Tables.{Copied};
 
-// The byte that ends a line.
-const LINE_FEED: u8 = 10;
 // How long the header is, with its line feed.
 const HEADER: usize = 7;
 // The words of a full table.
@@ -37,36 +32,6 @@ fn has_header(text: &[u8]) -> bool
         return false;
     }
     is_same(&text[..HEADER], b"plan\t1\n")
-}
-
-// The lines behind the header, one by one, into the tables.
-fn read_lines(text: &[u8], contacts: &mut [u64], ranges: &mut [u64]) -> PlanRead
-    requires { ⌜ (mostContacts * words ≤ length (now contacts)) × (mostRanges * words ≤ length (now ranges)) × (length header ≤ length (now text)) ⌝ }
-    ensures { λ r. ⌜ Gives (readLines 2 noRows (linesOf (drop (length header) (now (text .entry))))) (now (contacts .exit)) (now (ranges .exit)) r ⌝ }
-{
-    let mut m = 0;
-    let mut n = 0;
-    let mut at = HEADER;
-    let mut line = 2;
-    while at < text.len() {
-        let end = find(text, at, LINE_FEED);
-        if end == text.len() {
-            return PlanRead::Refused(Refusal::LineShape(line));
-        }
-        let said = said_by(&text[at..end]);
-        match take_said(said, contacts, m, ranges, n, line) {
-            PlanRead::Rows(a, b) => {
-                m = a;
-                n = b;
-            }
-            PlanRead::Refused(why) => {
-                return PlanRead::Refused(why);
-            }
-        }
-        at = end + 1;
-        line += 1;
-    }
-    PlanRead::Rows(m, n)
 }
 
 // The lines into the tables `passes` and `lights`, and the rows from there into the other two if no

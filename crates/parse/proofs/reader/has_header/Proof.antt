@@ -2,7 +2,7 @@
 -- Assumes nothing.
 use borrow.Author.Needs.{needs}
 use Rattle.text.specs.Rows.{header}
-use Rattle.parse.proofs.ReadCode.{header-short, header-whole}
+use Rattle.parse.proofs.CallCode.{header-short, header-whole}
 use Rattle.parse.proofs.reader.has_header.Statement.{statement}
 use Rattle.parse.proofs.reader.has_header.Tie as tie
 

@@ -6,7 +6,7 @@ use lib.ListN.{length}
 use lib.Seq.{length-take-le}
 use native.Mathlib.Omega.{arith}
 use borrow.Author.Needs.{needs}
-use Rattle.parse.proofs.ReadCode.{line-end}
+use Rattle.reading.proofs.StepCode.{line-end}
 use Rattle.route.proofs.asks.answer_lines.Statement.{statement}
 use Rattle.route.proofs.asks.answer_lines.Tie as tie
 
