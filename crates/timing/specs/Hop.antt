@@ -17,10 +17,10 @@ use Rattle.timing.specs.declared.arrival.Arrival.the-variants.{Ready, Ne
 unfoldable pub roundedUp : ℕ → ℕ → ℕ
 roundedUp n d = (n + (d - 1)) / d
 
--- the consumption of a file: its size and three hundredths of it, that fraction rounded up
+-- the consumption of a file: its size, three for each whole hundred bytes of it, and three hundredths of the rest, rounded up
 unfoldable pub consumed : ℕ → ℕ
 unfolding roundedUp
-consumed size = size + roundedUp (3 * size) 100
+consumed size = size + 3 * (size / 100) + roundedUp (3 * (size % 100)) 100
 
 -- its sending time on a contact: consumption × 1000 / rate, rounded up
 unfoldable pub sent : ℕ → ℕ → ℕ

@@ -12,12 +12,13 @@ ghost use Rattle.service.specs.Service.{LightGood};
 ghost use Rattle.timing.specs.Hop.{consumed, sent, hopped};
 ghost use Rattle.timing.specs.Model.{backOver};
 
-// The bytes that a file takes on a contact: its size and three hundredths of it, rounded up.
+// The bytes that a file takes on a contact: its size, three for each whole hundred bytes of it, and three
+// hundredths of the rest, rounded up.
 pub fn consumption(size: u64) -> u64
     requires { ⌜ size ≤ mostSize ⌝ }
     ensures { λ r. ⌜ r ≡ consumed size ⌝ }
 {
-    size + (3 * size + 99) / 100
+    size + 3 * (size / 100) + (3 * (size % 100) + 99) / 100
 }
 
 // How long a contact of that rate sends a file of that size, rounded up.

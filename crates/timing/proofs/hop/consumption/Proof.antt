@@ -15,13 +15,21 @@ add-result : tie.Need-add-result
 unfolding mostSize
 add-result c = omega arith
 
+mul-result-2 : tie.Need-mul-result-2
+unfolding mostSize
+mul-result-2 c = omega arith
+
 add-result-2 : tie.Need-add-result-2
 unfolding mostSize
 add-result-2 c = omega arith
+
+add-result-3 : tie.Need-add-result-3
+unfolding mostSize
+add-result-3 c = omega arith
 
 returns : tie.Need-returns
 unfolding consumed
 returns c = refl
 
 pub consumption-spec : {M : Type 1} → statement M
-consumption-spec = tie.close (tie.spec mul-result add-result add-result-2 returns)
+consumption-spec = tie.close (tie.spec mul-result add-result mul-result-2 add-result-2 add-result-3 returns)
