@@ -39,10 +39,12 @@ sub-k c = omega arith
 lowest-leading-requires : tie.Need-lowest-leading-requires Inv-loop μ-loop
 lowest-leading-requires c κs =
     let at-loop = c .before in
-    let pre = at-loop .before .before .before .before .before .before .pre in
-    let fewer : at-loop .loop .k - 1 + 1 ≤ at-loop .before .before .before .before .before .before .args .count + 1 =
-    omega (arith, at-loop .loop .inv .most, c .loop-test .taken) in
-    (pre .0 .0, pre .0 .1, pre .0 .2, le-trans (mul-le-mul-right mostNodes fewer) (pre .0 .3))
+    let pre = at-loop .before .before .before .before .before .before .pre in (
+      pre .0 .0,
+      pre .0 .1,
+      pre .0 .2,
+      le-trans (mul-le-mul-right mostNodes (omega (arith, at-loop .loop .inv .most, c .loop-test .taken))) (pre .0 .3),
+    )
 
 mul-chain : tie.Need-mul-chain Inv-loop μ-loop
 mul-chain c =
