@@ -1,8 +1,8 @@
 //! An ask as it is given, and as it is once its values are known to be good.
 
 use crate::plan::Contact;
-use crate::refusal::{Refusal, ASK_VALUE, SOURCE_IS_DESTINATION};
-use crate::units::{Millis, NodeNo, LARGEST_SIZE, LATEST_TIME};
+use crate::refusal::{Refusal, ASK_VALUE, NO_SUCH_CLASS, SOURCE_IS_DESTINATION};
+use crate::units::{Class, Millis, NodeNo, LARGEST_SIZE, LATEST_TIME};
 
 /// An ask as a caller gives it: any numbers at all.
 #[derive(Clone, Copy, Debug, PartialEq, Eq)]
@@ -27,8 +27,16 @@ pub struct GoodAsk {
 }
 
 impl Ask {
-    /// The ask with its kinds of number told apart, or refusal 11 or 12.
+    /// The ask with its kinds of number told apart, or refusal 11 or 12: an
+    /// ask without a class is one of the lowest.
     pub fn check(self) -> Result<GoodAsk, Refusal> {
+        let (good, _) = self.check_in(Class::LOWEST.0)?;
+        Ok(good)
+    }
+
+    /// The ask and its class, or refusal 11, 24 or 12.
+    pub fn check_in(self, class: u64) -> Result<(GoodAsk, Class), Refusal> {
+        let class = Class(class);
         let good = GoodAsk {
             source: NodeNo(self.source),
             destination: NodeNo(self.destination),
@@ -40,10 +48,13 @@ impl Ask {
         if !good.is_in_range() {
             return Err(Refusal::bare(ASK_VALUE));
         }
+        if !class.exists() {
+            return Err(Refusal::bare(NO_SUCH_CLASS));
+        }
         if good.source == good.destination {
             return Err(Refusal::bare(SOURCE_IS_DESTINATION));
         }
-        Ok(good)
+        Ok((good, class))
     }
 }
 

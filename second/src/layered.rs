@@ -5,8 +5,8 @@
 //! timing each candidate forward to the destination.
 
 use crate::ask::GoodAsk;
-use crate::exhaustive::{excluded, Definitions};
-use crate::plan::{Plan, Row};
+use crate::definitions::{excluded, Definitions};
+use crate::plan::Plan;
 use crate::refusal::{Refusal, NO_ALLOWED_CHAIN};
 use crate::router::{Best, Router};
 use crate::units::{ContactNo, LONGEST_BEST, NODES};
@@ -20,9 +20,7 @@ pub struct Layered {
 
 impl Router for Layered {
     fn prepare(plan: &Plan) -> Self {
-        Self {
-            definitions: Definitions::of(plan),
-        }
+        Self::over(Definitions::of(plan))
     }
 
     fn best(&self, ask: &GoodAsk) -> Result<Best, Refusal> {
@@ -38,6 +36,10 @@ impl Router for Layered {
 }
 
 impl Layered {
+    pub fn over(definitions: Definitions) -> Self {
+        Self { definitions }
+    }
+
     fn best_chain(&self, ask: &GoodAsk) -> Option<Vec<u64>> {
         let layers = self.layers(ask);
         let destination = ask.destination.0 as usize;
@@ -75,8 +77,8 @@ impl Layered {
 
     fn next_layer(&self, ask: &GoodAsk, before: &Layer) -> Layer {
         let mut after = *before;
-        for contact in &self.definitions.contacts {
-            if let Some(arrival) = self.over(ask, before, contact) {
+        for (number, contact) in (1..).zip(&self.definitions.contacts) {
+            if let Some(arrival) = self.across(ask, before, number) {
                 let place = &mut after[contact[3] as usize];
                 *place = Some(place.map_or(arrival, |known| known.min(arrival)));
             }
@@ -85,23 +87,22 @@ impl Layered {
     }
 
     /// The arrival over a contact from the earliest time at its node.
-    fn over(&self, ask: &GoodAsk, before: &Layer, contact: &Row) -> Option<u64> {
+    fn across(&self, ask: &GoodAsk, before: &Layer, number: u64) -> Option<u64> {
+        let contact = self.definitions.contact(number)?;
         if excluded(ask, contact) {
             return None;
         }
         let ready = before[contact[2] as usize]?;
         self.definitions
-            .hop(contact, ready, ask.size)
+            .hop(number, ready, ask.size)
             .map(|(_, arrival)| arrival)
     }
 
     /// The arrival over a contact and then the rest of the chain.
     fn arrival(&self, ask: &GoodAsk, before: &Layer, number: u64, rest: &[u64]) -> Option<u64> {
-        let contact = self.definitions.contact(number)?;
-        let mut ready = self.over(ask, before, contact)?;
+        let mut ready = self.across(ask, before, number)?;
         for &number in rest {
-            let contact = self.definitions.contact(number)?;
-            ready = self.definitions.hop(contact, ready, ask.size)?.1;
+            ready = self.definitions.hop(number, ready, ask.size)?.1;
         }
         Some(ready)
     }

@@ -1,17 +1,24 @@
-//! A second, independent contact-plan router, written from document 01 alone.
+//! A second, independent contact-plan router, written from documents 01 and 02
+//! alone; of the requests in 02 it has the third, bookings.
 //!
-//! It is the yardstick for the proved library and program: the four calls
-//! [`read`], [`write`], [`walk`] and [`route`] have the shape of the proved
-//! ones, and [`program::answers`] gives the bytes that the program prints.
-//! [`exhaustive`] and [`layered`] are slow routers that only check this one,
-//! and [`cases`] makes the plans, asks and damaged texts to compare on.
+//! It is the yardstick for the proved library and program: the calls [`read`],
+//! [`write`], [`walk`] and [`route`], and on a lent book [`walk_booked`],
+//! [`route_booked`], [`book_route`] and [`release`], have the shape of the
+//! proved ones, and [`program::answers`] gives the bytes that the program
+//! prints. [`plain`], [`definitions`], [`exhaustive`] and [`layered`] say it all
+//! again, slowly, and only check this one, and [`cases`] makes the plans, asks,
+//! books and damaged texts to compare on.
 
 pub mod ask;
+pub mod book;
+pub mod calls;
 pub mod cases;
 pub mod checks;
+pub mod definitions;
 pub mod exhaustive;
 pub mod layered;
 pub mod options;
+pub mod plain;
 pub mod plan;
 pub mod program;
 pub mod random;
@@ -24,7 +31,7 @@ pub mod timing;
 pub mod units;
 
 pub use ask::Ask;
+pub use calls::{book_route, release, route, route_booked, walk, walk_booked, Routed};
 pub use refusal::Refusal;
-pub use route::{route, Routed};
 pub use text::{read, write};
-pub use timing::{walk, Figures};
+pub use timing::Figures;

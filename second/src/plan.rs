@@ -43,6 +43,11 @@ impl Contact {
         [self.start.0, self.end.0, self.from.0, self.to.0, self.rate]
     }
 
+    /// The bytes that the contact carries in its whole length.
+    pub fn volume(&self) -> u64 {
+        self.rate * (self.end.0 - self.start.0) / 1000
+    }
+
     fn is_in_range(&self) -> bool {
         is_span(self.start, self.end)
             && self.from.exists()

@@ -1,6 +1,6 @@
-//! A refusal, and the names of document 01's numbers.
+//! A refusal, and the names of the numbers in documents 01 and 02.
 
-/// Why a call refuses: document 01's number, and the place that goes with it.
+/// Why a call refuses: its number, and the place that goes with it.
 #[derive(Clone, Copy, Debug, PartialEq, Eq)]
 pub struct Refusal {
     pub number: u64,
@@ -26,6 +26,7 @@ pub const CONTACT_AFTER_RANGE: u64 = 5;
 pub const TOO_MANY_ROWS: u64 = 6;
 pub const OVERLAP: u64 = 7;
 pub const SHORT_TABLES: u64 = 8;
+/// Also where the book is not valid, or names a contact that the plan lacks.
 pub const NO_VALID_PLAN: u64 = 9;
 pub const SHORT_OUTPUT: u64 = 10;
 pub const ASK_VALUE: u64 = 11;
@@ -35,3 +36,6 @@ pub const NOT_IN_TIME: u64 = 14;
 pub const SHORT_CHAIN: u64 = 15;
 pub const CHAIN_NOT_ALLOWED: u64 = 16;
 pub const ASK_SHAPE: u64 = 17;
+pub const NO_SUCH_CLASS: u64 = 24;
+pub const BOOK_FULL: u64 = 25;
+pub const NOT_OPEN: u64 = 26;

@@ -1,4 +1,4 @@
-//! The best chain, found efficiently, and the call `route`.
+//! The best chain, found efficiently.
 //!
 //! A search in the order of (ready time, contacts used) settles, for each
 //! node, every pair that no earlier and no shorter way beats: an early way of
@@ -10,43 +10,13 @@
 use std::cmp::Reverse;
 use std::collections::BinaryHeap;
 
-use crate::ask::{Ask, GoodAsk};
+use crate::ask::GoodAsk;
+use crate::book::Book;
 use crate::plan::Plan;
-use crate::refusal::{Refusal, NO_ALLOWED_CHAIN, SHORT_CHAIN};
+use crate::refusal::{Refusal, NO_ALLOWED_CHAIN};
 use crate::router::{Best, Router};
-use crate::timing::{consumption, figures, Figures, Link, Links};
-use crate::units::{ContactNo, Millis, NodeNo, LONGEST_BEST, NODES};
-
-/// What `route` answers beside the chain it fills.
-#[derive(Clone, Copy, Debug, PartialEq, Eq)]
-pub struct Routed {
-    pub figures: Figures,
-    pub count: u64,
-}
-
-/// Finds the best chain for an ask and fills it into the lent places.
-pub fn route(
-    contacts: &[u64],
-    contact_count: u64,
-    ranges: &[u64],
-    range_count: u64,
-    ask: Ask,
-    chain: &mut [u64],
-) -> Result<Routed, Refusal> {
-    if chain.len() < LONGEST_BEST {
-        return Err(Refusal::bare(SHORT_CHAIN));
-    }
-    let plan = Plan::of_tables(contacts, contact_count, ranges, range_count)?;
-    let ask = ask.check()?;
-    let best = Network::prepare(&plan).best(&ask)?;
-    for (place, number) in chain.iter_mut().zip(&best.chain) {
-        *place = number.0;
-    }
-    Ok(Routed {
-        figures: best.figures,
-        count: best.chain.len() as u64,
-    })
-}
+use crate::timing::{consumption, figures, Link, Links};
+use crate::units::{Class, ContactNo, Millis, NodeNo, NODES};
 
 /// The links of a plan, sorted for the search.
 pub struct Network {
@@ -57,9 +27,13 @@ pub struct Network {
     arriving: Vec<Vec<ContactNo>>,
 }
 
-impl Router for Network {
-    fn prepare(plan: &Plan) -> Self {
-        let links = Links::of(plan);
+impl Network {
+    /// The network of a plan with its book, for asks of a class.
+    pub fn booked(plan: &Plan, book: &Book, class: Class) -> Self {
+        Self::over(Links::booked(plan, book, class))
+    }
+
+    fn over(links: Links) -> Self {
         let mut leaving = vec![Vec::new(); NODES as usize];
         let mut arriving = vec![Vec::new(); NODES as usize];
         for (number, link) in links.iter() {
@@ -74,6 +48,12 @@ impl Router for Network {
             leaving,
             arriving,
         }
+    }
+}
+
+impl Router for Network {
+    fn prepare(plan: &Plan) -> Self {
+        Self::over(Links::of(plan))
     }
 
     fn best(&self, ask: &GoodAsk) -> Result<Best, Refusal> {

@@ -15,6 +15,7 @@ pub struct Best {
 
 /// A way to find best chains in a plan.
 pub trait Router {
+    /// The router of a plan on which nothing is booked.
     fn prepare(plan: &Plan) -> Self;
 
     /// The best chain, or refusal 13 or 14.

@@ -1,9 +1,10 @@
-//! The timing of a chain: hops, the four figures, and the call `walk`.
+//! The timing of a chain: hops and the four figures.
 
-use crate::ask::{Ask, GoodAsk};
+use crate::ask::GoodAsk;
+use crate::book::Book;
 use crate::plan::{Contact, Plan};
 use crate::refusal::{Refusal, CHAIN_NOT_ALLOWED, NOT_IN_TIME};
-use crate::units::{ContactNo, Millis, LARGEST_SIZE};
+use crate::units::{Class, ContactNo, Millis, LARGEST_SIZE};
 
 /// What is said of an allowed chain in time.
 #[derive(Clone, Copy, Debug, PartialEq, Eq)]
@@ -14,32 +15,18 @@ pub struct Figures {
     pub room: u64,
 }
 
-/// The figures of a given chain of contact numbers.
-pub fn walk(
-    contacts: &[u64],
-    contact_count: u64,
-    ranges: &[u64],
-    range_count: u64,
-    ask: Ask,
-    chain: &[u64],
-) -> Result<Figures, Refusal> {
-    let plan = Plan::of_tables(contacts, contact_count, ranges, range_count)?;
-    let ask = ask.check()?;
-    let links = Links::of(&plan);
-    let numbers = chain.iter().map(|&number| ContactNo(number));
-    figures(&links, &ask, numbers)
-}
-
 /// What a file takes of a contact's volume: its size and three hundredths.
 pub fn consumption(size: u64) -> u64 {
     size + (3 * size).div_ceil(100)
 }
 
-/// A contact with the light time of the range that covers it.
+/// A contact with the light time of the range that covers it, and with what
+/// is left of its volume in the class of the ask.
 #[derive(Clone, Copy)]
 pub struct Link {
     pub contact: Contact,
     light: Millis,
+    left: i64,
 }
 
 /// A file's way over one contact.
@@ -54,11 +41,18 @@ impl Link {
         Millis((consumption * 1000).div_ceil(self.contact.rate))
     }
 
-    /// The way of a file that is ready before the contact, if it fits.
+    /// Whether enough of the volume is left.
+    fn holds(&self, consumption: u64) -> bool {
+        i128::from(consumption) <= i128::from(self.left)
+    }
+
+    /// The way of a file that is ready before the contact, if it fits: in what
+    /// is left of the volume, and in time.
     pub fn hop(&self, ready: Millis, consumption: u64) -> Option<Hop> {
         let start = ready.max(self.contact.start);
         let sent = start + self.sending_time(consumption);
-        (sent <= self.contact.end).then(|| Hop {
+        let fits = self.holds(consumption) && sent <= self.contact.end;
+        fits.then(|| Hop {
             start,
             ready: sent + self.light,
         })
@@ -69,7 +63,8 @@ impl Link {
     pub fn latest_ready(&self, by: Millis, consumption: u64) -> Option<Millis> {
         let sent_by = by.earlier_by(self.light)?.min(self.contact.end);
         let start_by = sent_by.earlier_by(self.sending_time(consumption))?;
-        (self.contact.start <= start_by).then_some(start_by)
+        let fits = self.holds(consumption) && self.contact.start <= start_by;
+        fits.then_some(start_by)
     }
 }
 
@@ -77,12 +72,23 @@ impl Link {
 pub struct Links(Vec<Option<Link>>);
 
 impl Links {
+    /// The links of a plan on which nothing is booked.
     pub fn of(plan: &Plan) -> Self {
-        let link = |&contact: &Contact| {
+        Self::booked(plan, &Book::default(), Class::LOWEST)
+    }
+
+    /// The links of a plan with its book, for asks of a class.
+    pub fn booked(plan: &Plan, book: &Book, class: Class) -> Self {
+        let link = |(&contact, left): (&Contact, i64)| {
             let light = plan.light(&contact)?;
-            Some(Link { contact, light })
+            Some(Link {
+                contact,
+                light,
+                left,
+            })
         };
-        Self(plan.contacts().iter().map(link).collect())
+        let left = book.left(plan, class);
+        Self(plan.contacts().iter().zip(left).map(link).collect())
     }
 
     pub fn get(&self, number: ContactNo) -> Option<&Link> {

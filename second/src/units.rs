@@ -1,4 +1,5 @@
-//! The three kinds of number that document 01 keeps apart, and every limit.
+//! The kinds of number that are kept apart, and every limit: those of document
+//! 01, and those of the book.
 
 use std::ops::Add;
 
@@ -18,8 +19,16 @@ pub const ROWS: usize = 512;
 pub const WORDS: usize = 5;
 /// The longest plan text and the longest input of asks, in bytes.
 pub const LONGEST_TEXT: usize = 65_536;
-/// The most contacts of a best chain.
+/// The most contacts of a best chain, and of a booked one.
 pub const LONGEST_BEST: usize = 63;
+/// Bookings are in classes from 1, the lowest, to this.
+pub const CLASSES: u64 = 3;
+/// The most that a file consumes of a contact, in bytes; the least is 1.
+pub const LARGEST_CONSUMPTION: u64 = 1_030_000_000;
+/// The places of a book.
+pub const PLACES: usize = 256;
+/// The words of a place in the lent book; its contact numbers stand apart.
+pub const PLACE_WORDS: usize = 4;
 
 /// A contact's number: 1 for the first row of its table.
 #[derive(Clone, Copy, Debug, PartialEq, Eq, PartialOrd, Ord)]
@@ -48,6 +57,35 @@ impl NodeNo {
     }
 
     /// The place of an existing node in a table of nodes.
+    pub fn index(self) -> usize {
+        (self.0 - 1) as usize
+    }
+}
+
+/// A class of booking: a higher one goes before a lower one.
+#[derive(Clone, Copy, Debug, PartialEq, Eq, PartialOrd, Ord)]
+pub struct Class(pub u64);
+
+impl Class {
+    pub const LOWEST: Self = Self(1);
+
+    /// Whether there is a class of this number.
+    pub fn exists(self) -> bool {
+        (1..=CLASSES).contains(&self.0)
+    }
+}
+
+/// The number of a place in the book: 1 for the first.
+#[derive(Clone, Copy, Debug, PartialEq, Eq, PartialOrd, Ord)]
+pub struct PlaceNo(pub u64);
+
+impl PlaceNo {
+    /// Every place of a book, the lowest first.
+    pub fn all() -> impl Iterator<Item = Self> {
+        (1..=PLACES as u64).map(Self)
+    }
+
+    /// The index of a place of a book, the first being 0.
     pub fn index(self) -> usize {
         (self.0 - 1) as usize
     }

@@ -2,3 +2,5 @@
 pub mod PairsCode
 pub mod ServiceLaws
 mod ServingCode
+pub mod SpendLaws
+mod SpendingCode

@@ -1,4 +1,6 @@
 -- What a plan is as it serves an ask.
+--     getD-mapped, rows-are                             an element of a mapped list, and rows that are a list
+--     length-lefts, getD-lefts                          what is left on contacts from a number on
 --     service-contact, service-light, service-left      what it holds for a contact
 --     left-exactly                                      what fits what is left
 --     light-good, service-sound                         the plan is valid: every light time is in its range, and the service is sound
@@ -8,16 +10,18 @@ use mathlib.Core.List.{List, [], _∷_, map}
 use mathlib.Core.Logic.{_↔_}
 use mathlib.Core.Path.{_≡_, refl, sym, ap, _∙_, subst}
 use Prim.Native.Nat.{ℕ, zero, suc, _+_, _-_, _*_, _≤_, _<_}
-use native.Mathlib.Nat.{not-suc-le-zero, le-of-suc-le-suc}
+use native.Mathlib.Nat.{zero-add, not-suc-le-zero, le-of-suc-le-suc}
 use native.Mathlib.Omega.{arith}
 use lib.ListN.{length, getD, length-map}
+use lib.Seq.{ext-getD}
 use Rattle.plan.specs.declared.rows.Contact.{Contact}
 use Rattle.plan.specs.declared.light.Light.{Light}
 use Rattle.plan.specs.declared.light.Light.the-variants.{Of, Unranged}
 use Rattle.plan.specs.Light.{lightOf}
 use Rattle.plan.specs.Plan.{Plan, GoodRange, Each, Valid}
-use Rattle.plan.specs.Tables.{IsPlan, planOf}
+use Rattle.plan.specs.Tables.{rowsFrom, IsPlan, planOf}
 use Rattle.plan.proofs.Covering.{light-covered}
+use Rattle.plan.proofs.RowList.{length-rows, getD-rows}
 use Rattle.service.specs.Service.{blank, contactOf, lightIn, leftIn, volume, leftsFrom, serviceOf, InPlan, LightGood, Sound}
 use Rattle.service.specs.Tables.{pairWords, served, IsService}
 
@@ -28,6 +32,14 @@ pub getD-mapped : {A B : Type 0} (f : A → B) (xs : List A) (k : ℕ) (a : A) (
 getD-mapped f [] k a b h = absurd (not-suc-le-zero h)
 getD-mapped f (x ∷ xs) zero a b h = refl
 getD-mapped f (x ∷ xs) (suc k) a b h = getD-mapped f xs k a b (le-of-suc-le-suc h)
+
+-- rows that a list has one by one are that list
+pub rows-are : {A : Type 0} (row : ℕ → A) (n : ℕ) (xs : List A) (d : A) → length xs ≡ n → ((k : ℕ) → k < n → row k ≡ getD xs k d) → rowsFrom row 0 n ≡ xs
+rows-are row n xs d long same =
+    ext-getD d (rowsFrom row 0 n) xs (length-rows row 0 n ∙ sym long)
+    (λ k h.
+    let below : k < n = rw (length-rows row 0 n) at h in
+    getD-rows row 0 n k d below ∙ ap row (zero-add k) ∙ same k below)
 
 pub length-lefts : (used : ℕ → ℕ) (n : ℕ) (cs : List Contact) → length (leftsFrom used n cs) ≡ length cs
 unfolding leftsFrom

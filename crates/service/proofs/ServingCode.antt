@@ -13,7 +13,7 @@ use Prim.Native.Nat.{ℕ, _+_, _-_, _*_, _≤_, _<_}
 use native.Mathlib.Nat.{zero-add, sub-zero, mul-le-mul, eq-or-lt-of-le}
 use native.Mathlib.Omega.{arith}
 use lib.ListN.{length, getD, set, length-set, length-map}
-use lib.Seq.{ext-getD, getD-set-same, getD-set-other}
+use lib.Seq.{getD-set-same, getD-set-other}
 use Rattle.units.specs.Limits.{lastTime, mostRate, mostLight}
 use Rattle.units.specs.declared.Millis.{Millis}
 use Rattle.plan.specs.declared.rows.Contact.{Contact}
@@ -27,7 +27,7 @@ use Rattle.plan.proofs.RowList.{length-rows, getD-rows}
 use Rattle.service.specs.Service.{blank, volume, leftsFrom, serviceOf, unused, LightGood}
 use Rattle.service.specs.Tables.{pairWords, unranged, lightWord, lightAt, leftAt, served}
 use Rattle.service.proofs.PairsCode.{word-unranged, word-ranged}
-use Rattle.service.proofs.ServiceLaws.{getD-mapped, length-lefts, getD-lefts, light-good}
+use Rattle.service.proofs.ServiceLaws.{getD-mapped, rows-are, length-lefts, getD-lefts, light-good}
 
 pub volume-room : (c : Contact) → GoodContact c → c .rate * (c .end .0 - c .start .0) < 18_446_744_073_709_551_616
 unfolding lastTime mostRate
@@ -105,14 +105,6 @@ module _ (pairs : List ℕ) (k word left : ℕ) where
           let at-most : j ≤ k = omega arith in
           subst (λ (t : List ℕ). Paired contacts rs t j) (sym e)
           (⊎-elim (λ s. subst (Paired contacts rs stored) (sym s) paired-there) (λ l. paired-earlier j l (before j l)) (eq-or-lt-of-le at-most))
-
--- rows that a list has one by one are that list
-rows-are : {A : Type 0} (row : ℕ → A) (n : ℕ) (xs : List A) (d : A) → length xs ≡ n → ((k : ℕ) → k < n → row k ≡ getD xs k d) → rowsFrom row 0 n ≡ xs
-rows-are row n xs d long same =
-    ext-getD d (rowsFrom row 0 n) xs (length-rows row 0 n ∙ sym long)
-    (λ k h.
-    let below : k < n = rw (length-rows row 0 n) at h in
-    getD-rows row 0 n k d below ∙ ap row (zero-add k) ∙ same k below)
 
 module _ (contacts : List ℕ) (m : ℕ) (ranges : List ℕ) (n : ℕ) (pairs : List ℕ) where
   pub paired-all : ((j : ℕ) → j < m → Paired contacts (rowsFrom (rangeAt ranges) 0 n) pairs j)

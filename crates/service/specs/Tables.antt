@@ -3,10 +3,12 @@
 --     lightAt, leftAt      what they say, at a place counted from 0
 --     served               the service that the two tables hold
 --     IsService            they hold a sound one
+--     Spent                what is used of the first n contacts is taken from what is left on them
 -- Assumes nothing.
 use mathlib.Core.Bool.{Bool, true, false}
 use mathlib.Core.List.{List}
-use Prim.Native.Nat.{ℕ, _+_, _*_, _≤_}
+use mathlib.Core.Path.{_≡_}
+use Prim.Native.Nat.{ℕ, _+_, _-_, _*_, _≤_, _<_}
 use lib.Dec.{eqb}
 use lib.ListN.{length, getD}
 use Rattle.plan.specs.declared.light.Light.{Light}
@@ -50,3 +52,9 @@ pub record IsService (contacts : List ℕ) (m : ℕ) (pairs : List ℕ) : Type 0
   pub contacts-lent : m * words ≤ length contacts
   pub pairs-lent : m * pairWords ≤ length pairs
   pub sound : Sound (served contacts m pairs)
+
+-- from what is left on each of n contacts the bytes used of it are taken, and 0 is left where more is used
+pub record Spent (n : ℕ) (uses before after : List ℕ) : Type 0 where
+  pub same-length : length after ≡ length before
+  pub lights-kept : (k : ℕ) → k < n → getD after (k * pairWords) 0 ≡ getD before (k * pairWords) 0
+  pub lefts-less : (k : ℕ) → k < n → getD after (k * pairWords + 1) 0 ≡ getD before (k * pairWords + 1) 0 - getD uses k 0

@@ -1,6 +1,7 @@
 // The plan as it serves an ask: beside each contact its light time and the bytes that are left on it.
 mod pairs;
 mod serving;
+mod spending;
 
 pub use pairs::PAIR_WORDS;
 pub use pairs::PAIRS;
@@ -8,3 +9,4 @@ pub use pairs::UNRANGED;
 pub use pairs::left_numbered;
 pub use pairs::light_numbered;
 pub use serving::serve;
+pub use spending::spend;

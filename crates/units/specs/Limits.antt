@@ -35,6 +35,18 @@ mostRanges = 512
 unfoldable pub mostChain : ℕ
 mostChain = 63
 
+-- classes of bookings are numbered 1, the lowest, to this
+unfoldable pub mostClass : ℕ
+mostClass = 3
+
+-- a book has so many places
+unfoldable pub mostPlaces : ℕ
+mostPlaces = 256
+
+-- the consumption of a booking is 1 to this
+unfoldable pub mostConsumption : ℕ
+mostConsumption = 1_030_000_000
+
 -- a plan text has at most so many bytes, and so has the input of asks
 unfoldable pub mostText : ℕ
 mostText = 65_536

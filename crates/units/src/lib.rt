@@ -59,6 +59,12 @@ pub const MOST_CONTACTS: usize = 512;
 pub const MOST_RANGES: usize = 512;
 // The most contacts of a best chain.
 pub const MOST_CHAIN: usize = 63;
+// Classes of bookings are numbered from 1, the lowest, to this.
+pub const MOST_CLASS: u64 = 3;
+// The places of a book.
+pub const MOST_PLACES: usize = 256;
+// The largest consumption of a booking, in bytes.
+pub const MOST_CONSUMPTION: u64 = 1_030_000_000;
 // The longest plan text, and the longest input of asks, in bytes.
 pub const MOST_TEXT: usize = 65_536;
 

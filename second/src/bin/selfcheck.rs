@@ -1,4 +1,4 @@
-//! Checks the second program against itself and against document 01.
+//! Checks the second program against itself and against documents 01 and 02.
 //!
 //! selfcheck [--seed N] [--rounds N]
 

@@ -1,7 +1,7 @@
 //! Chains to walk: best ones, ones that come round, any, and damaged ones.
 
 use crate::ask::{Ask, GoodAsk};
-use crate::exhaustive::Definitions;
+use crate::definitions::Definitions;
 use crate::random::Random;
 use crate::route::Network;
 use crate::router::Router;
@@ -72,7 +72,7 @@ fn strolled(
         let next = (1..)
             .zip(&definitions.contacts)
             .filter_map(|(number, contact)| {
-                let hop = definitions.hop(contact, ready, ask.size);
+                let hop = definitions.hop(number, ready, ask.size);
                 let goes_on = contact[2] == node && (hop.is_some() || !fitting);
                 let arrival = hop.map_or(ready, |(_, arrival)| arrival);
                 goes_on.then_some((number, contact[3], arrival))

@@ -1,7 +1,7 @@
 //! A valid plan in the making: rows are added only where they fit.
 
 use crate::cases::lines::Pieces;
-use crate::exhaustive::{contact_is_good, overlap, range_is_good};
+use crate::plain::{contact_is_good, overlap, range_is_good};
 use crate::plan::{Plan, Row};
 use crate::random::Random;
 use crate::units::{HIGHEST_RATE, LONGEST_LIGHT, NODES, ROWS};

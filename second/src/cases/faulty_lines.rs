@@ -3,7 +3,7 @@
 use crate::cases::damage::LineFaults;
 use crate::cases::draft::{Draft, Kind};
 use crate::cases::lines::{too_long, Pieces, FORMS, FORMS_WITH_WORD};
-use crate::exhaustive::overlap;
+use crate::plain::overlap;
 use crate::plan::Row;
 use crate::random::Random;
 use crate::refusal::{CONTACT_AFTER_RANGE, LINE_SHAPE, OVERLAP, TOO_MANY_ROWS, VALUE};

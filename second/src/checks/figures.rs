@@ -2,6 +2,7 @@
 //! and the program's refusals of a whole plan or input.
 
 use crate::ask::Ask;
+use crate::calls::walk;
 use crate::cases::draft::Draft;
 use crate::cases::folders::{FIGURE_ASKS, TIE_ASK};
 use crate::cases::plans;
@@ -11,7 +12,6 @@ use crate::layered::Layered;
 use crate::program::answers;
 use crate::refusal::Refusal;
 use crate::route::Network;
-use crate::timing::walk;
 use crate::units::LONGEST_TEXT;
 
 const PRINTED_A_TO_G: &str = "route\t6080\t0\t5900\t2427\t2\t1\t2

@@ -1,7 +1,14 @@
-//! The checks of the second program against itself and against document 01.
+//! The checks of the second program against itself and against documents 01
+//! and 02.
 
+pub mod book_refusals;
+pub mod booked_figures;
+pub mod booked_routes;
+pub mod booked_walks;
 pub mod figures;
+pub mod history;
 pub mod routes;
+pub mod sessions;
 pub mod tables;
 pub mod tally;
 pub mod texts;
@@ -13,6 +20,7 @@ use tally::Tally;
 /// Makes every check; those on random cases so many times.
 pub fn all(seed: u64, rounds: u64, tally: &mut Tally) {
     figures::check(tally);
+    booked_figures::check(tally);
     walks::check_long_chains(tally);
     for round in 0..rounds {
         let random = &mut Random::for_case(seed, round);
@@ -25,7 +33,23 @@ pub fn all(seed: u64, rounds: u64, tally: &mut Tally) {
             routes::check_large(random, round / 5, tally);
             texts::check_round_trip(random, round / 5, tally);
         }
+        check_books(random, round, tally);
         tally.show_progress(round + 1, rounds);
+    }
+}
+
+/// The checks of a round that lend a book.
+fn check_books(random: &mut Random, round: u64, tally: &mut Tally) {
+    booked_routes::check_small(random, tally);
+    booked_walks::check(random, tally);
+    booked_walks::check_empty(random, tally);
+    book_refusals::check(random, tally);
+    sessions::check(random, tally);
+    if round.is_multiple_of(5) {
+        booked_routes::check_large(random, round / 5, tally);
+    }
+    if round.is_multiple_of(20) {
+        sessions::check_full(random, tally);
     }
 }
 

@@ -1,6 +1,7 @@
 //! The efficient router against all chains, and against the layered one.
 
 use crate::ask::Ask;
+use crate::calls::route;
 use crate::cases::asks;
 use crate::cases::draft::Draft;
 use crate::cases::plans::{LARGE, SMALL};
@@ -9,7 +10,7 @@ use crate::exhaustive::AllChains;
 use crate::layered::Layered;
 use crate::random::Random;
 use crate::refusal::{Refusal, SHORT_CHAIN};
-use crate::route::{route, Network};
+use crate::route::Network;
 use crate::router::{Best, Router};
 use crate::units::LONGEST_BEST;
 

@@ -2,16 +2,15 @@
 //! refusals 15, 9, 11 and 12 and their order.
 
 use crate::ask::Ask;
+use crate::calls::{route, walk};
 use crate::cases::asks;
 use crate::cases::plans::SMALL;
 use crate::cases::tables::Tables;
 use crate::checks::tally::Tally;
-use crate::exhaustive::{ask_refusal, is_valid};
+use crate::plain::{ask_refusal, is_valid};
 use crate::random::Random;
 use crate::refusal::{Refusal, ASK_VALUE, NO_VALID_PLAN, SHORT_CHAIN, SOURCE_IS_DESTINATION};
-use crate::route::route;
 use crate::text::write;
-use crate::timing::walk;
 use crate::units::LONGEST_BEST;
 
 const TABLES: usize = 20;

@@ -1,16 +1,17 @@
 //! The call `walk` against the plain definitions.
 
 use crate::ask::Ask;
+use crate::calls::walk;
 use crate::cases::chains::{chain, exclude_later};
 use crate::cases::plans::SMALL;
 use crate::cases::{asks, draft::Draft, draft::Kind};
 use crate::checks::tally::Tally;
-use crate::exhaustive::Definitions;
+use crate::definitions::Definitions;
 use crate::random::Random;
 use crate::refusal::Refusal;
 use crate::route::Network;
 use crate::router::Router;
-use crate::timing::{walk, Figures};
+use crate::timing::Figures;
 use crate::units::LATEST_TIME;
 
 const CHAINS_A_PLAN: usize = 20;

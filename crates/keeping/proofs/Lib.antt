@@ -1,0 +1,9 @@
+-- The laws of a book that is kept. The files named Code are what the proofs of the functions know.
+pub mod CallLaws
+mod EnterCode
+pub mod HistoryLaws
+pub mod KeepLaws
+mod PlaceStores
+mod SamePlace
+pub mod StandingLaws
+mod Stores
