@@ -16,7 +16,7 @@ use Rattle.units.specs.Limits.{lastTime, mostSize, mostContacts, mostChain}
 use Rattle.units.specs.Refusals.{numberOf, placeOf}
 use Rattle.units.specs.declared.Ask.{Ask}
 use Rattle.units.specs.declared.Refusal.{Refusal}
-use Rattle.units.specs.declared.Refusal.the-variants.{LongText, NoHeader, LineShape, LineValue, AfterRange, TooMany, LineOverlap, FewRows, NoPlan, ShortOutput, AskValue, SameNode, NoChain, TooLate, ShortChain, NotAllowed, AskShape}
+use Rattle.units.specs.declared.Refusal.the-variants.{LongText, NoHeader, LineShape, LineValue, AfterRange, TooMany, LineOverlap, FewRows, NoPlan, ShortOutput, AskValue, SameNode, NoChain, TooLate, ShortChain, NotAllowed, AskShape, BadClass}
 use Rattle.service.specs.Service.{Service, Sound, contactOf, InPlan, unused}
 use Rattle.service.proofs.ServiceLaws.{service-sound}
 use Rattle.timing.specs.Chain.{Carries, stays, hops}
@@ -80,6 +80,7 @@ number-short why = decimal-short 1 (numberOf why) (small why)
     small ShortChain = omega arith
     small NotAllowed = omega arith
     small (AskShape line) = omega arith
+    small BadClass = omega arith
 
 pub refused-line-short : (why : Refusal) (chain : List ℕ) → placeOf why ≤ 99_999 → length (answerBytes (Refused why) chain) ≤ 17
 unfolding answerBytes answerLine refusedWord lineOf glueLine glueFields

@@ -5,5 +5,5 @@ pub mod CaseTable
 pub mod Chains
 mod ChoiceCode
 mod ChooseCode
-mod RouteCode
+pub mod RouteCode
 pub mod Theorems

@@ -5,3 +5,4 @@ mod routing;
 
 pub use answer::Routed;
 pub use routing::route;
+pub use routing::route_served;

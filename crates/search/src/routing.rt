@@ -70,7 +70,7 @@ fn route_in(
 }
 
 // The same, with the words of 64 layers of 64 nodes on the stack.
-fn route_served(
+pub fn route_served(
     contacts: &[u64],
     contact_count: usize,
     pairs: &[u64],

@@ -2,7 +2,7 @@
 -- Assumes nothing.
 use Prim.Native.Nat.{ℕ}
 use Rattle.units.specs.declared.Refusal.{Refusal}
-use Rattle.units.specs.declared.Refusal.the-variants.{LongText, NoHeader, LineShape, LineValue, AfterRange, TooMany, LineOverlap, FewRows, NoPlan, ShortOutput, AskValue, SameNode, NoChain, TooLate, ShortChain, NotAllowed, AskShape}
+use Rattle.units.specs.declared.Refusal.the-variants.{LongText, NoHeader, LineShape, LineValue, AfterRange, TooMany, LineOverlap, FewRows, NoPlan, ShortOutput, AskValue, SameNode, NoChain, TooLate, ShortChain, NotAllowed, AskShape, BadClass}
 
 abbrev pub numberOf : Refusal → ℕ
 -- text over 65,536 bytes
@@ -39,6 +39,8 @@ numberOf ShortChain = 15
 numberOf NotAllowed = 16
 -- ask line's shape (program)
 numberOf (AskShape line) = 17
+-- class not 1 to 3
+numberOf BadClass = 24
 
 -- the line for 3 to 7 and 17, line 1 for 2, the needed length for 10, else 0
 abbrev pub placeOf : Refusal → ℕ
@@ -59,3 +61,4 @@ placeOf TooLate = 0
 placeOf ShortChain = 0
 placeOf NotAllowed = 0
 placeOf (AskShape line) = line
+placeOf BadClass = 0

@@ -41,6 +41,7 @@ pub enum Refusal {
     ShortChain,
     NotAllowed,
     AskShape(u64),
+    BadClass,
 }
 
 // The last millisecond there is.
@@ -101,6 +102,7 @@ pub fn number(why: Refusal) -> u64
         Refusal::ShortChain => 15,
         Refusal::NotAllowed => 16,
         Refusal::AskShape(_) => 17,
+        Refusal::BadClass => 24,
     }
 }
 
@@ -126,5 +128,6 @@ pub fn place(why: Refusal) -> u64
         Refusal::ShortChain => 0,
         Refusal::NotAllowed => 0,
         Refusal::AskShape(line) => line,
+        Refusal::BadClass => 0,
     }
 }

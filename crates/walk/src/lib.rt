@@ -11,3 +11,4 @@ pub use last_call::back_over;
 pub use walking::figures_of;
 pub use walking::is_good_ask;
 pub use walking::walk;
+pub use walking::walk_served;

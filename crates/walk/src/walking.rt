@@ -98,7 +98,7 @@ pub fn figures_of(
 }
 
 // The answer for a plan as it serves the ask, and a good ask between two nodes.
-fn walk_served(
+pub fn walk_served(
     contacts: &[u64],
     contact_count: usize,
     pairs: &[u64],
