@@ -16,7 +16,7 @@ use Rattle.units.specs.Limits.{lastTime, mostSize, mostContacts, mostChain}
 use Rattle.units.specs.Refusals.{numberOf, placeOf}
 use Rattle.units.specs.declared.Ask.{Ask}
 use Rattle.units.specs.declared.Refusal.{Refusal}
-use Rattle.units.specs.declared.Refusal.the-variants.{LongText, NoHeader, LineShape, LineValue, AfterRange, TooMany, LineOverlap, FewRows, NoPlan, ShortOutput, AskValue, SameNode, NoChain, TooLate, ShortChain, NotAllowed, AskShape, BadClass}
+use Rattle.units.specs.declared.Refusal.the-variants.{LongText, NoHeader, LineShape, LineValue, AfterRange, TooMany, LineOverlap, FewRows, NoPlan, ShortOutput, AskValue, SameNode, NoChain, TooLate, ShortChain, AskShape, NoContact, NotJoined, ExcludedNode, NotRanged, NotFitting, EndsElsewhere, BadClass, FullBook, NotOpen}
 use Rattle.service.specs.Service.{Service, Sound, contactOf, InPlan, unused}
 use Rattle.service.proofs.ServiceLaws.{service-sound}
 use Rattle.timing.specs.Chain.{Carries, stays, hops}
@@ -78,9 +78,16 @@ number-short why = decimal-short 1 (numberOf why) (small why)
     small NoChain = omega arith
     small TooLate = omega arith
     small ShortChain = omega arith
-    small NotAllowed = omega arith
     small (AskShape line) = omega arith
+    small (NoContact position) = omega arith
+    small (NotJoined position) = omega arith
+    small (ExcludedNode position) = omega arith
+    small (NotRanged position) = omega arith
+    small (NotFitting position) = omega arith
+    small (EndsElsewhere position) = omega arith
     small BadClass = omega arith
+    small FullBook = omega arith
+    small NotOpen = omega arith
 
 pub refused-line-short : (why : Refusal) (chain : List ℕ) → placeOf why ≤ 99_999 → length (answerBytes (Refused why) chain) ≤ 17
 unfolding answerBytes answerLine refusedWord lineOf glueLine glueFields

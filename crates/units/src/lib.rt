@@ -21,8 +21,8 @@ pub struct Ask {
     pub excluded: u64,
 }
 
-// Why a call refuses. A line's refusal holds the line, counted from 1, and `ShortOutput` the length
-// needed. `number` and `place` give the paper's two figures.
+// Why a call refuses. A line's refusal holds the line and a chain's the position in it, both counted
+// from 1, and `ShortOutput` the length needed. `number` and `place` give the paper's two figures.
 pub enum Refusal {
     LongText,
     NoHeader,
@@ -39,9 +39,16 @@ pub enum Refusal {
     NoChain,
     TooLate,
     ShortChain,
-    NotAllowed,
     AskShape(u64),
+    NoContact(u64),
+    NotJoined(u64),
+    ExcludedNode(u64),
+    NotRanged(u64),
+    NotFitting(u64),
+    EndsElsewhere(u64),
     BadClass,
+    FullBook,
+    NotOpen,
 }
 
 // The last millisecond there is.
@@ -100,9 +107,16 @@ pub fn number(why: Refusal) -> u64
         Refusal::NoChain => 13,
         Refusal::TooLate => 14,
         Refusal::ShortChain => 15,
-        Refusal::NotAllowed => 16,
         Refusal::AskShape(_) => 17,
+        Refusal::NoContact(_) => 18,
+        Refusal::NotJoined(_) => 19,
+        Refusal::ExcludedNode(_) => 20,
+        Refusal::NotRanged(_) => 21,
+        Refusal::NotFitting(_) => 22,
+        Refusal::EndsElsewhere(_) => 23,
         Refusal::BadClass => 24,
+        Refusal::FullBook => 25,
+        Refusal::NotOpen => 26,
     }
 }
 
@@ -126,8 +140,15 @@ pub fn place(why: Refusal) -> u64
         Refusal::NoChain => 0,
         Refusal::TooLate => 0,
         Refusal::ShortChain => 0,
-        Refusal::NotAllowed => 0,
         Refusal::AskShape(line) => line,
+        Refusal::NoContact(position) => position,
+        Refusal::NotJoined(position) => position,
+        Refusal::ExcludedNode(position) => position,
+        Refusal::NotRanged(position) => position,
+        Refusal::NotFitting(position) => position,
+        Refusal::EndsElsewhere(position) => position,
         Refusal::BadClass => 0,
+        Refusal::FullBook => 0,
+        Refusal::NotOpen => 0,
     }
 }

@@ -49,14 +49,35 @@ enum-told-8 c = search needs
 enum-told-9 : tie.Need-enum-told-9
 enum-told-9 c = search needs
 
-enum-told-10 : tie.Need-enum-told-10
-enum-told-10 c = search needs
-
 enum-known-why-7 : tie.Need-enum-known-why-7
 enum-known-why-7 c = search needs
 
+enum-known-why-8 : tie.Need-enum-known-why-8
+enum-known-why-8 c = search needs
+
+enum-known-why-9 : tie.Need-enum-known-why-9
+enum-known-why-9 c = search needs
+
+enum-known-why-10 : tie.Need-enum-known-why-10
+enum-known-why-10 c = search needs
+
+enum-known-why-11 : tie.Need-enum-known-why-11
+enum-known-why-11 c = search needs
+
+enum-known-why-12 : tie.Need-enum-known-why-12
+enum-known-why-12 c = search needs
+
+enum-known-why-13 : tie.Need-enum-known-why-13
+enum-known-why-13 c = search needs
+
+enum-told-10 : tie.Need-enum-told-10
+enum-told-10 c = search needs
+
 enum-told-11 : tie.Need-enum-told-11
 enum-told-11 c = search needs
+
+enum-told-12 : tie.Need-enum-told-12
+enum-told-12 c = search needs
 
 returns : tie.Need-returns
 returns c = rw (c .enum-told .given .1)
@@ -104,13 +125,34 @@ returns-15 : tie.Need-returns-15
 returns-15 c = rw (c .enum-told9 .given .1)
 
 returns-16 : tie.Need-returns-16
-returns-16 c = rw (c .enum-told10 .given .1)
+returns-16 c = rw (c .before .why7 .given .1)
 
 returns-17 : tie.Need-returns-17
-returns-17 c = rw (c .before .why7 .given .1)
+returns-17 c = rw (c .before .why8 .given .1)
 
 returns-18 : tie.Need-returns-18
-returns-18 c = rw (c .enum-told11 .given .1)
+returns-18 c = rw (c .before .why9 .given .1)
+
+returns-19 : tie.Need-returns-19
+returns-19 c = rw (c .before .why10 .given .1)
+
+returns-20 : tie.Need-returns-20
+returns-20 c = rw (c .before .why11 .given .1)
+
+returns-21 : tie.Need-returns-21
+returns-21 c = rw (c .before .why12 .given .1)
+
+returns-22 : tie.Need-returns-22
+returns-22 c = rw (c .before .why13 .given .1)
+
+returns-23 : tie.Need-returns-23
+returns-23 c = rw (c .enum-told10 .given .1)
+
+returns-24 : tie.Need-returns-24
+returns-24 c = rw (c .enum-told11 .given .1)
+
+returns-25 : tie.Need-returns-25
+returns-25 c = rw (c .enum-told12 .given .1)
 
 pub place-spec : {M : Type 1} → statement M
 place-spec =
@@ -131,9 +173,16 @@ place-spec =
     enum-told-7
     enum-told-8
     enum-told-9
-    enum-told-10
     enum-known-why-7
+    enum-known-why-8
+    enum-known-why-9
+    enum-known-why-10
+    enum-known-why-11
+    enum-known-why-12
+    enum-known-why-13
+    enum-told-10
     enum-told-11
+    enum-told-12
     returns
     returns-2
     returns-3
@@ -151,4 +200,11 @@ place-spec =
     returns-15
     returns-16
     returns-17
-    returns-18)
+    returns-18
+    returns-19
+    returns-20
+    returns-21
+    returns-22
+    returns-23
+    returns-24
+    returns-25)
