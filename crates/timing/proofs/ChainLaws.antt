@@ -4,6 +4,7 @@
 --     carries-sooner, carries-smaller      a file that is ready earlier, or is smaller, is carried too, and no later
 --     carries-at                           the ask's own time plays no part
 --     carry-sound, carry-complete, carry-never
+--     tells-not                            the test that a test fails
 --     allowed-delivery, allowed-never, allowed-determined      the same of an allowed chain
 -- Assumes nothing.
 use mathlib.Core.Bool.{Bool, true, false, not}
@@ -74,7 +75,7 @@ record From (p : Service) (ask : Ask) (u c : ℕ) : Type 0 where
   from : contactOf p c .from .0 ≡ u
   unbarred : isBarred ask (contactOf p c) ≡ false
 
-tells-not : (b : Bool) → Verdict (b ≡ false) (not b)
+pub tells-not : (b : Bool) → Verdict (b ≡ false) (not b)
 tells-not true = fails (λ e. subst T e tt)
 tells-not false = holds refl
 

@@ -29,7 +29,7 @@ fn is_excluded(excluded: u64, n: NodeNo) -> bool
 }
 
 // Whether the contact goes from the source to an excluded neighbour.
-fn is_barred(ask: Ask, c: Contact) -> bool
+pub fn is_barred(ask: Ask, c: Contact) -> bool
     requires { ⌜ GoodContact c ⌝ }
     ensures { λ t. ⌜ t ≡ isBarred ask c ⌝ }
 {

@@ -5,6 +5,8 @@ mod hop;
 
 pub use arrival::Arrival;
 pub use chain::delivery;
+pub use chain::is_barred;
+pub use chain::over;
 pub use chain::step;
 pub use hop::back;
 pub use hop::consumption;

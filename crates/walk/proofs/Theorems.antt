@@ -28,8 +28,9 @@ use Rattle.timing.specs.Chain.{Allowed, InTime}
 use Rattle.walk.specs.Figures.{IsLastCall, IsRoom, HasFigures}
 use Rattle.timing.specs.Model.{deliveryOf}
 use Rattle.walk.specs.Model.{figuresOf, pickWalked, walkedOf, walkModel}
-use Rattle.walk.specs.Walk.{GoodAsk, WalksPlan, not-allowed, too-late, carried, Walks, no-plan, bad-ask, same-node, walked}
-use Rattle.timing.proofs.ChainLaws.{carries-after, allowed-delivery, allowed-never, allowed-determined}
+use Rattle.walk.specs.Walk.{GoodAsk, WalksPlan, turned-down, too-late, carried, Walks, no-plan, bad-ask, same-node, walked}
+use Rattle.timing.proofs.ChainLaws.{carries-after, allowed-delivery, allowed-determined}
+use Rattle.walk.proofs.CauseLaws.{cause-tells, turned-determined, allowed-no-cause}
 use Rattle.walk.proofs.LastCallLaws.{last-call-is}
 use Rattle.walk.proofs.RoomLaws.{room-is}
 
@@ -49,13 +50,13 @@ module _ {p : Service} {ask : Ask} {chain : List ℕ} where
       λ i. record { delivery = record { 0 = delivery i }; opens = record { 0 = opens i }; «last_call» = record { 0 = last i }; room = room i }
 
   pub walks-plan-determined : {a b : Walked} → WalksPlan p ask chain a → WalksPlan p ask chain b → a ≡ b
-  walks-plan-determined (not-allowed n) (not-allowed n') = refl
-  walks-plan-determined (not-allowed n) (too-late a l) = absurd (n _ a)
-  walks-plan-determined (not-allowed n) (carried f) = absurd (n _ (f .allowed))
-  walks-plan-determined (too-late a l) (not-allowed n) = absurd (n _ a)
+  walks-plan-determined (turned-down d) (turned-down d') = ap Refused (turned-determined d d')
+  walks-plan-determined (turned-down d) (too-late a l) = absurd (allowed-no-cause a d)
+  walks-plan-determined (turned-down d) (carried f) = absurd (allowed-no-cause (f .allowed) d)
+  walks-plan-determined (too-late a l) (turned-down d) = absurd (allowed-no-cause a d)
   walks-plan-determined (too-late a l) (too-late a' l') = refl
   walks-plan-determined (too-late a l) (carried f) = absurd (omega (arith, allowed-determined p ask a (f .allowed), f .in-time))
-  walks-plan-determined (carried f) (not-allowed n) = absurd (n _ (f .allowed))
+  walks-plan-determined (carried f) (turned-down d) = absurd (allowed-no-cause (f .allowed) d)
   walks-plan-determined (carried f) (too-late a l) = absurd (omega (arith, allowed-determined p ask a (f .allowed), f .in-time))
   walks-plan-determined (carried f) (carried g) = ap Carried (figures-unique f g)
 
@@ -108,7 +109,7 @@ module _ (p : Service) (ask : Ask) (chain : List ℕ) (valid : Sound p) (good : 
 
   walked-of : (a : Arrival) → deliveryOf p ask chain ≡ a → WalksPlan p ask chain (walkedOf p ask chain a)
   walked-of (Ready r) e = walked-in-time _ (allowed-delivery p ask differ chain r .0 e) (tells-lt (r .0) (ask .deadline .0))
-  walked-of Never e = not-allowed (λ r a. allowed-never p ask e a)
+  walked-of Never e = turned-down (cause-tells p ask chain e)
 
   pub walk-model-walks : WalksPlan p ask chain (walkModel p ask chain)
   unfolding walkModel

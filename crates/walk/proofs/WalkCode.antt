@@ -13,7 +13,8 @@ use lib.ListN.{getD}
 use Rattle.units.specs.Limits.{lastTime, mostSize}
 use Rattle.units.specs.declared.Ask.{Ask}
 use Rattle.units.specs.declared.Millis.{Millis}
-use Rattle.units.specs.declared.Refusal.the-variants.{NotAllowed, TooLate}
+use Rattle.units.specs.declared.Refusal.{Refusal}
+use Rattle.units.specs.declared.Refusal.the-variants.{TooLate}
 use Rattle.plan.specs.declared.rows.Contact.{Contact}
 use Rattle.plan.specs.Tables.{contactAt}
 use Rattle.plan.specs.Verdict.{Verdict}
@@ -26,7 +27,7 @@ use Rattle.walk.specs.declared.figures.Walked.the-variants.{Carried, Ref
 use Rattle.service.specs.Service.{Service, contactOf, InPlan}
 use Rattle.service.specs.Tables.{served}
 use Rattle.timing.specs.Hop.{startOn}
-use Rattle.walk.specs.Model.{goodAsk, limitBefore, roomOf, figuresOf, walkModel}
+use Rattle.walk.specs.Model.{goodAsk, limitBefore, roomOf, figuresOf, causeOf, walkModel}
 use Rattle.timing.specs.Model.{deliveryOf}
 use Rattle.walk.specs.Walk.{GoodAsk}
 use Rattle.timing.proofs.ChainCode.{contact-lent}
@@ -60,9 +61,9 @@ module _ (p : Service) (ask : Ask) (chain : List ℕ) where
   unfolding figuresOf
   figures-by d o l n eo el en = λ i. record { delivery = d; opens = record { 0 = eo i }; «last_call» = record { 0 = el i }; room = en i }
 
-  pub walk-never : deliveryOf p ask chain ≡ Never → Refused NotAllowed ≡ walkModel p ask chain
+  pub walk-never : (why : Refusal) → deliveryOf p ask chain ≡ Never → why ≡ causeOf p ask chain → Refused why ≡ walkModel p ask chain
   unfolding walkModel
-  walk-never e = rw e
+  walk-never why e w = rw (e, w)
 
   pub walk-late : (r : Millis) → deliveryOf p ask chain ≡ Ready r → ask .deadline .0 ≤ r .0 → Refused TooLate ≡ walkModel p ask chain
   unfolding walkModel

@@ -1,3 +1,4 @@
+pub mod Cause
 pub mod Figures
 pub mod Model
 pub mod Walk

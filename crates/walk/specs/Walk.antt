@@ -1,17 +1,19 @@
--- What `walk` promises: refusals in the order 9, 11, 12, 16, 14, or the chain's figures.
+-- What `walk` promises: refusals in the order 9, 11, 12, 18 to 23, 14, or the chain's figures.
 -- Assumes nothing.
 use mathlib.Core.List.{List}
 use mathlib.Core.Path.{_≡_}
 use Prim.Native.Nat.{ℕ, _≤_}
 use Rattle.units.specs.Limits.{IsNode, lastTime, mostSize}
 use Rattle.units.specs.declared.Ask.{Ask}
-use Rattle.units.specs.declared.Refusal.the-variants.{NoPlan, AskValue, SameNode, NotAllowed, TooLate}
+use Rattle.units.specs.declared.Refusal.{Refusal}
+use Rattle.units.specs.declared.Refusal.the-variants.{NoPlan, AskValue, SameNode, TooLate}
 use Rattle.plan.specs.Tables.{IsPlan, planOf}
 use Rattle.service.specs.Service.{Service, serviceOf, unused}
 use Rattle.walk.specs.declared.figures.Figures.{Figures}
 use Rattle.walk.specs.declared.figures.Walked.{Walked}
 use Rattle.walk.specs.declared.figures.Walked.the-variants.{Carried, Refused}
 use Rattle.timing.specs.Chain.{Allowed}
+use Rattle.walk.specs.Cause.{TurnedDown}
 use Rattle.walk.specs.Figures.{HasFigures}
 
 -- every value of the ask in its range; any exclusion number is
@@ -25,7 +27,7 @@ pub record GoodAsk (ask : Ask) : Type 0 where
 
 -- the answer for a valid plan, as it serves the ask, and a good ask between two nodes
 pub data WalksPlan (p : Service) (ask : Ask) (chain : List ℕ) : Walked → Type 0 where
-  not-allowed : ((r : ℕ) → Allowed p ask chain r → ⊥) → WalksPlan p ask chain (Refused NotAllowed)
+  turned-down : {why : Refusal} → TurnedDown p ask chain why → WalksPlan p ask chain (Refused why)
   too-late : {r : ℕ} → Allowed p ask chain r → ask .deadline .0 ≤ r → WalksPlan p ask chain (Refused TooLate)
   carried : {f : Figures} → HasFigures p ask chain f → WalksPlan p ask chain (Carried f)
 

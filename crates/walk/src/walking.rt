@@ -1,10 +1,11 @@
 // The public call `walk`: a given chain is timed.
+use crate::cause::cause;
 use crate::figures::Figures;
 use crate::figures::Walked;
 use crate::last_call::limit_before;
 use crate::room::room;
 use plan::contact_numbered;
-use plan::is_plan;
+use service::BLANK;
 use service::PAIRS;
 use service::serve;
 use timing::Arrival;
@@ -17,6 +18,7 @@ use units::MOST_SIZE;
 use units::Millis;
 use units::Refusal;
 use units::is_node;
+use validity::is_plan;
 ghost use mathlib.Core.Path.{_≡_};
 ghost use Prim.Native.Nat.{_-_, _*_, _≤_, _<_};
 ghost use lib.ListN.{length, getD};
@@ -110,7 +112,7 @@ pub fn walk_served(
 {
     let arrival = delivery(contacts, contact_count, pairs, ask, chain);
     let Arrival::Ready(delivered) = arrival else {
-        return Walked::Refused(Refusal::NotAllowed);
+        return Walked::Refused(cause(contacts, contact_count, pairs, ask, chain));
     };
     if delivered.0 < ask.deadline.0 {
         Walked::Carried(figures_of(contacts, contact_count, pairs, ask, chain, delivered))
@@ -149,7 +151,7 @@ fn walk_plan(
     requires { ⌜ IsPlan (now contacts) «contact_count» (now ranges) «range_count» × GoodAsk ask × (ask .source .0 ≡ ask .destination .0 → ⊥) ⌝ }
     ensures { λ r. ⌜ r ≡ walkModel (serviceOf (planOf (now (contacts .entry)) «contact_count» (now (ranges .entry)) «range_count») unused) ask (now (chain .entry)) ⌝ }
 {
-    let mut pairs = [0u64; PAIRS];
+    let mut pairs = [BLANK; PAIRS];
     walk_through(
         contacts,
         contact_count,

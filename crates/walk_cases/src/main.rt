@@ -1,6 +1,7 @@
-// `timing::walk` over chains whose answers are known: a line a case, its name and the answer. The
+// `walk::walk` over chains whose answers are known: a line a case, its name and the answer. The
 // answers in `stdout` were computed by another program, from the request's definitions.
 mod asks;
+mod causes;
 mod chains;
 mod figures;
 mod long;
@@ -21,5 +22,9 @@ fn main() {
     asks::cases();
     tables::cases();
     order::cases();
+    causes::alone();
+    causes::two();
+    causes::last();
+    causes::twice();
     long::cases();
 }

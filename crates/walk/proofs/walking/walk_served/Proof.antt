@@ -17,8 +17,11 @@ enum-known-arrival c = search needs
 enum-told : tie.Need-enum-told
 enum-told c = search needs
 
+cause-requires : tie.Need-cause-requires
+cause-requires c κs = search needs
+
 returns : tie.Need-returns
-returns c = walk-never _ _ _ (sym (c .before .before .delivery .ensures) ∙ c .enum-told .given .1)
+returns c = walk-never _ _ _ _ (sym (c .before .before .before .delivery .ensures) ∙ c .before .enum-told .given .1) (c .cause .ensures)
 
 figures-of-requires : tie.Need-figures-of-requires
 figures-of-requires c κs =
@@ -43,4 +46,4 @@ returns-3 c =
 pub walk-served-spec : {M : Type 1} → statement M
 walk-served-spec =
     tie.close
-    (tie.spec delivery-requires enum-known-arrival enum-told returns figures-of-requires returns-2 returns-3)
+    (tie.spec delivery-requires enum-known-arrival enum-told cause-requires returns figures-of-requires returns-2 returns-3)
