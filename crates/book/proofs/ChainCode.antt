@@ -17,10 +17,10 @@ use lib.ListN.{length, getD, set, length-set}
 use lib.Seq.{getD-set-same, getD-set-other}
 use Rattle.plan.specs.Plan.{Each}
 use Rattle.plan.specs.Tables.{rowsFrom}
+use Rattle.plan.proofs.EachRow.{each-row}
 use Rattle.plan.proofs.RowList.{rows-more, rows-done, rows-last}
 use Rattle.book.specs.Book.{names}
 use Rattle.book.specs.Model.{HasRoom, Added, once}
-use Rattle.book.proofs.EachRow.{each-row}
 
 -- the chain from place j on names c where the whole chain does, and place j has x
 module _ (row : ℕ → ℕ) (c j n : ℕ) (whole : Bool) (rest : whole ≡ names (rowsFrom row j (n - j)) c) where

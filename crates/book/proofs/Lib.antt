@@ -1,7 +1,6 @@
 -- The laws of a book. The files named Code are what the proofs of the functions know.
 pub mod BookLaws
 mod ChainCode
-pub mod EachRow
 pub mod PlaceLaws
 mod SumCode
 pub mod UsesLaws

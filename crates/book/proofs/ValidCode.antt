@@ -18,11 +18,11 @@ use Rattle.units.specs.Limits.{mostChain, mostClass, mostConsumption, mostPlace
 use Rattle.plan.specs.Plan.{Each}
 use Rattle.plan.specs.Tables.{rowsFrom}
 use Rattle.plan.specs.Verdict.{Verdict, holds, fails}
+use Rattle.plan.proofs.EachRow.{rows-each, each-row}
 use Rattle.plan.proofs.Verdicts.{tells-le, tells-eq, both, restated, true-holds, false-fails}
 use Rattle.book.specs.Book.{Named, GoodBooking}
 use Rattle.book.specs.Model.{contactsAt}
 use Rattle.book.specs.Tables.{placeWords, freeMark, openMark, markAt, countAt, bookingAt, GoodPlace, free-place, open-place, IsBook}
-use Rattle.book.proofs.EachRow.{rows-each, each-row}
 use Rattle.book.proofs.PlaceLaws.{chain-long, booking-few, booking-of, free-of}
 
 pub named-tells : (m c : ℕ) → Verdict (Named m c) (leb 1 c && leb c m)

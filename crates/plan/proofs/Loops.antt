@@ -1,14 +1,10 @@
--- What a loop over the rows k, k + 1, .., n - 1 knows of `each`, `noTwo` and `lightOf`: at its start, at a row that passes, at one that fails, at its end.
+-- What a loop over the rows k, k + 1, .., n - 1 knows of `each`: at its start, at a row that passes, at one that fails, at its end.
 -- Assumes nothing.
-use mathlib.Core.Bool.{Bool, true, false, not}
+use mathlib.Core.Bool.{Bool, true, false}
 use mathlib.Core.Path.{_≡_, sym, ap, _∙_}
 use Prim.Native.Nat.{ℕ, _+_, _-_, _≤_, _<_}
 use native.Mathlib.Nat.{sub-zero}
-use Rattle.plan.specs.declared.rows.Contact.{Contact}
-use Rattle.plan.specs.declared.rows.Range.{Range}
-use Rattle.plan.specs.declared.light.Light.the-variants.{Of, Unranged}
-use Rattle.plan.specs.Light.{covers, lightOf}
-use Rattle.plan.specs.Model.{each, noTwo}
+use Rattle.plan.specs.Model.{each}
 use Rattle.plan.specs.Tables.{rowsFrom}
 use Rattle.plan.proofs.RowList.{rows-more, rows-done}
 
@@ -33,34 +29,3 @@ module _ {A : Type 0} (test : A → Bool) (row : ℕ → A) (k n : ℕ) (whole :
   pub each-ends : n ≤ k → true ≡ whole
   unfolding each
   each-ends h = rw (rest, rows-done row k n h)
-
--- the same, where b tells of x with each row after it
-module _ {A : Type 0} (test : A → A → Bool) (row : ℕ → A) (k n : ℕ) (whole : Bool) (rest : whole ≡ noTwo test (rowsFrom row k (n - k))) where
-  module _ (h : k < n) (x : A) (ex : x ≡ row k) (b : Bool) (eb : b ≡ each (λ y. not (test x y)) (rowsFrom row (k + 1) (n - (k + 1)))) where
-    clear : (v : Bool) → b ≡ v → each (λ y. not (test (row k) y)) (rowsFrom row (k + 1) (n - (k + 1))) ≡ v
-    clear v e = ap (λ (z : A). each (λ y. not (test z y)) (rowsFrom row (k + 1) (n - (k + 1)))) (sym ex) ∙ sym eb ∙ e
-
-    pub noTwo-goes : b ≡ true → whole ≡ noTwo test (rowsFrom row (k + 1) (n - (k + 1)))
-    unfolding noTwo
-    noTwo-goes e = rw (rest, rows-more row k n h, clear true e)
-
-    pub noTwo-stops : b ≡ false → false ≡ whole
-    unfolding noTwo
-    noTwo-stops e = rw (rest, rows-more row k n h, clear false e)
-
-  pub noTwo-ends : n ≤ k → true ≡ whole
-  unfolding noTwo
-  noTwo-ends h = rw (rest, rows-done row k n h)
-
-module _ (row : ℕ → Range) (c : Contact) (k n : ℕ) where
-  pub light-goes : k < n → covers (row k) c ≡ false → lightOf (rowsFrom row k (n - k)) c ≡ lightOf (rowsFrom row (k + 1) (n - (k + 1))) c
-  unfolding lightOf
-  light-goes h e = rw (rows-more row k n h, e)
-
-  pub light-stops : k < n → covers (row k) c ≡ true → lightOf (rowsFrom row k (n - k)) c ≡ Of (row k .light)
-  unfolding lightOf
-  light-stops h e = rw (rows-more row k n h, e)
-
-  pub light-ends : n ≤ k → lightOf (rowsFrom row k (n - k)) c ≡ Unranged
-  unfolding lightOf
-  light-ends h = rw (rows-done row k n h)

@@ -22,7 +22,7 @@ use Rattle.plan.specs.Verdict.{Verdict, holds}
 use Rattle.plan.proofs.Verdicts.{tells-le, tells-lt, tells-eq, both, denied, restated, answers-agree}
 
 module _ {A : Type 0} where
-  each-cons : (P : A → Type 0) (x : A) (xs : List A) → P x → Each P xs → Each P (x ∷ xs)
+  pub each-cons : (P : A → Type 0) (x : A) (xs : List A) → P x → Each P xs → Each P (x ∷ xs)
   unfolding Each
   each-cons P x xs p ps blank zero h = p
   each-cons P x xs p ps blank (suc k) h = ps blank k (le-of-suc-le-suc h)
@@ -60,6 +60,13 @@ module _ {A : Type 0} where
   pub noTwo-tail : (R : A → A → Type 0) (x : A) (xs : List A) → NoTwo R (x ∷ xs) → NoTwo R xs
   unfolding NoTwo
   noTwo-tail R x xs qs blank j k l h r = qs blank (suc j) (suc k) (suc-le-suc l) (suc-le-suc h) r
+
+  -- what holds of no two of the mapped elements holds of no two, mapped
+  pub noTwo-at : {B : Type 0} (R : A → A → Type 0) (f : B → A) (xs : List B) → NoTwo R (map f xs) → (blank : B) (j k : ℕ) → j < k → k < length xs
+      → R (f (getD xs j blank)) (f (getD xs k blank)) → ⊥
+  unfolding NoTwo
+  noTwo-at R f xs qs blank j k l h r =
+      qs (f blank) j k l (rw (length-map xs f) h) (rw (List·getD-map f xs j blank, List·getD-map f xs k blank) r)
 
   pub noTwo-tells : (R : A → A → Type 0) (test : A → A → Bool) → ((x y : A) → Verdict (R x y) (test x y)) → (xs : List A) → Verdict (NoTwo R xs) (noTwo test xs)
   unfolding noTwo NoTwo

@@ -50,6 +50,12 @@ module _ {A : Type 0} where
   unfoldable pub Each : (A → Type 0) → List A → Type 0
   Each P xs = (blank : A) (k : ℕ) → k < length xs → P (getD xs k blank)
 
+  -- it holds of some element
+  pub record Some (P : A → Type 0) (xs : List A) : Type 0 where
+    pub place : ℕ
+    pub in-list : place < length xs
+    pub holds-there : (blank : A) → P (getD xs place blank)
+
   -- it holds of no two elements, the earlier one first
   unfoldable pub NoTwo : (A → A → Type 0) → List A → Type 0
   NoTwo R xs = (blank : A) (j k : ℕ) → j < k → k < length xs → R (getD xs j blank) (getD xs k blank) → ⊥

@@ -6,7 +6,6 @@ mod rows;
 mod valid;
 
 pub use light::Light;
-pub use light::light_time;
 pub use rows::Contact;
 pub use rows::Range;
 pub use rows::Span;
@@ -18,4 +17,4 @@ pub use rows::span_row;
 pub use valid::is_clear;
 pub use valid::is_good_contact;
 pub use valid::is_good_range;
-pub use valid::is_plan;
+pub use valid::is_overlap;

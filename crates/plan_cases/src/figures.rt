@@ -74,13 +74,12 @@ fn light(no: u64)
     requires { ⌜ (1 ≤ no) × (no ≤ 6) ⌝ }
 {
     show::case(b"figures, light time of contact", &[no]);
-    let c = plan::contact_numbered(&CONTACTS, ContactNo(no));
-    show::light(plan::light_time(&RANGES, 4, c));
+    show::light_in(&CONTACTS, 6, &RANGES, 4, ContactNo(no));
 }
 
 pub fn cases() {
     io::write_all(1, b"figures");
-    show::verdict(plan::is_plan(&CONTACTS, 6, &RANGES, 4));
+    show::verdict(validity::is_plan(&CONTACTS, 6, &RANGES, 4));
     light(1);
     light(2);
     light(3);

@@ -1,8 +1,15 @@
 // How a case is printed: its name, its words, a tab, the library's answer.
 use plan::Light;
+use units::ContactNo;
+ghost use Prim.Native.Nat.{_≤_};
 
-// How many words are printed at the most: those of two rows.
-const SHOWN: usize = 10;
+// The most contacts whose light times are shown, and the words beside them.
+const MOST_SHOWN: usize = 6;
+
+const PAIRS_SHOWN: usize = MOST_SHOWN * service::PAIR_WORDS;
+
+// How many words are printed at the most: those of three rows.
+const SHOWN: usize = 15;
 
 // Prints the name, and each word after a space.
 pub fn case(name: &[u8], words: &[u64]) {
@@ -28,7 +35,7 @@ pub fn verdict(is_plan: bool) {
 }
 
 // Prints a light time, or that there is none, and ends the line.
-pub fn light(answer: Light) {
+fn light(answer: Light) {
     match answer {
         Light::Of(light) => {
             io::write_all(1, b"\t");
@@ -41,13 +48,32 @@ pub fn light(answer: Light) {
     }
 }
 
+// Says the light time of a contact of the plan, of six contacts at the most.
+pub fn light_in(
+    contacts: &[u64],
+    contact_count: usize,
+    ranges: &[u64],
+    range_count: usize,
+    no: ContactNo,
+)
+    requires { ⌜ (1 ≤ no .0) × (no .0 ≤ 6) × («contact_count» ≤ 6) ⌝ }
+{
+    if validity::is_plan(contacts, contact_count, ranges, range_count) {
+        let mut pairs = [0; PAIRS_SHOWN];
+        service::serve(contacts, contact_count, ranges, range_count, &mut pairs);
+        light(service::light_numbered(&pairs, no));
+    } else {
+        io::write_all(1, b"\tno plan\n");
+    }
+}
+
 // Says whether so many rows of the table are a plan, as contacts with no range, and as ranges with
 // no contact.
 pub fn both(name: &[u8], table: &[u64], count: usize) {
     io::write_all(1, b"contacts, ");
     case(name, table);
-    verdict(plan::is_plan(table, count, table, 0));
+    verdict(validity::is_plan(table, count, table, 0));
     io::write_all(1, b"ranges, ");
     case(name, table);
-    verdict(plan::is_plan(table, 0, table, count));
+    verdict(validity::is_plan(table, 0, table, count));
 }

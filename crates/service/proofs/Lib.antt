@@ -1,4 +1,6 @@
 -- The laws of a service. The files named Code are what the proofs of the functions know.
+pub mod BeforeLaws
+mod LightsCode
 pub mod PairsCode
 pub mod ServiceLaws
 mod ServingCode

@@ -18,9 +18,9 @@ use Rattle.plan.specs.declared.rows.Contact.{Contact}
 use Rattle.plan.specs.declared.light.Light.{Light}
 use Rattle.plan.specs.declared.light.Light.the-variants.{Of, Unranged}
 use Rattle.plan.specs.Light.{lightOf}
-use Rattle.plan.specs.Plan.{Plan, GoodRange, Each, Valid}
+use Rattle.plan.specs.Plan.{Plan, Each, Valid}
 use Rattle.plan.specs.Tables.{rowsFrom, IsPlan, planOf}
-use Rattle.plan.proofs.Covering.{light-covered}
+use Rattle.plan.proofs.Ranging.{light-most}
 use Rattle.plan.proofs.RowList.{length-rows, getD-rows}
 use Rattle.service.specs.Service.{blank, contactOf, lightIn, leftIn, volume, leftsFrom, serviceOf, InPlan, LightGood, Sound}
 use Rattle.service.specs.Tables.{pairWords, served, IsService}
@@ -81,14 +81,10 @@ left-exactly n v u h = (λ f. omega arith, λ f. omega arith)
 -- ---- soundness
 
 pub light-good : (p : Plan) → Valid p → (c : Contact) → LightGood (lightOf (p .ranges) c)
-unfolding Each
 light-good p v c = go (lightOf (p .ranges) c) refl
   where
     go : (light : Light) → lightOf (p .ranges) c ≡ light → LightGood light
-    go (Of l) e =
-        let by = light-covered (p .ranges) c l e in
-        let good : GoodRange (by .range) = rw (by .stands (by .range)) at (v .ranges-good (by .range) (by .place) (by .in-list)) in
-        rw (by .has) at (good .light-most)
+    go (Of l) e = light-most p v c l e
     go Unranged e = tt
 
 pub service-sound : (p : Plan) → Valid p → (used : ℕ → ℕ) → Sound (serviceOf p used)

@@ -2,6 +2,7 @@
 --     volume-room                  the product that a volume is made of has room in a word
 --     ranged-word, unranged-word   the word of a light time, and of none
 --     row-good, light-in-range     a row of the plan is a good contact, and its light time is in its range
+--     ranges-linkable, ranges-listed      the ranges of the plan can be linked, and then stand in lists
 --     Paired                       the pair beside a row says its light time and its volume
 --     stored-long                  a pair stored leaves the length
 --     paired-more, paired-all      one row more, and all rows: the tables hold the service
@@ -14,16 +15,21 @@ use native.Mathlib.Nat.{zero-add, sub-zero, mul-le-mul, eq-or-lt-of-le}
 use native.Mathlib.Omega.{arith}
 use lib.ListN.{length, getD, set, length-set, length-map}
 use lib.Seq.{getD-set-same, getD-set-other}
-use Rattle.units.specs.Limits.{lastTime, mostRate, mostLight}
+use Rattle.units.specs.Limits.{lastTime, mostRate, mostLight, mostRanges}
 use Rattle.units.specs.declared.Millis.{Millis}
 use Rattle.plan.specs.declared.rows.Contact.{Contact}
 use Rattle.plan.specs.declared.rows.Range.{Range}
 use Rattle.plan.specs.declared.light.Light.{Light}
 use Rattle.plan.specs.declared.light.Light.the-variants.{Of, Unranged}
 use Rattle.plan.specs.Light.{lightOf}
-use Rattle.plan.specs.Plan.{GoodContact, Each}
+use Rattle.plan.specs.Plan.{GoodContact, GoodRange, Each}
 use Rattle.plan.specs.Tables.{contactAt, rangeAt, rowsFrom, planOf, IsPlan}
+use Rattle.plan.proofs.EachRow.{each-row}
+use Rattle.plan.proofs.Lent.{ranges-counted}
 use Rattle.plan.proofs.RowList.{length-rows, getD-rows}
+use Rattle.lists.specs.Lists.{Linked, slotAt}
+use Rattle.lists.specs.Model.{slots, mostRows, Linkable}
+use Rattle.service.specs.Model.{RangesListed}
 use Rattle.service.specs.Service.{blank, volume, leftsFrom, serviceOf, unused, LightGood}
 use Rattle.service.specs.Tables.{pairWords, unranged, lightWord, lightAt, leftAt, served}
 use Rattle.service.proofs.PairsCode.{word-unranged, word-ranged}
@@ -62,6 +68,36 @@ pub light-in-range : (contacts : List ℕ) (m : ℕ) (ranges : List ℕ) (n : �
     → light ≡ lightOf (rowsFrom (rangeAt ranges) 0 n) c → LightGood light
 unfolding planOf
 light-in-range contacts m ranges n plan c light e = subst LightGood (sym e) (light-good (planOf contacts m ranges n) (plan .valid) c)
+
+module _ (contacts : List ℕ) (m : ℕ) (ranges : List ℕ) (n : ℕ) (plan : IsPlan contacts m ranges n) (heads nexts : List ℕ) (slot-each : length heads ≡ slots)
+    (row-each : mostRows ≤ length nexts) where
+  few : n ≤ mostRows
+  unfolding mostRanges mostRows
+  few = ranges-counted contacts m ranges n plan
+
+  pub ranges-linkable : Linkable ranges n heads nexts
+  unfolding planOf
+  ranges-linkable = record {
+    few = few;
+    lent = plan .ranges-lent;
+    a-slot-each = slot-each;
+    a-row-each = omega (arith, few);
+    pairs = λ k h.
+        let good = each-row GoodRange (rangeAt ranges) n (plan .valid .ranges-good) k h in
+        record { one-node = good .a-node; other-node = good .b-node };
+  }
+
+  pub ranges-listed : (heads′ nexts′ : List ℕ) → Linked (slotAt ranges) n heads′ nexts′ → length heads′ ≡ length heads → length nexts′ ≡ length nexts
+      → RangesListed ranges n heads′ nexts′
+  unfolding planOf
+  ranges-listed heads′ nexts′ linked eh en = record {
+    lent = plan .ranges-lent;
+    good = plan .valid .ranges-good;
+    apart = plan .valid .ranges-apart;
+    a-slot-each = eh ∙ slot-each;
+    a-row-each = omega (arith, few, en);
+    linked = linked;
+  }
 
 -- the pair beside row k says its light time and its volume
 pub record Paired (contacts : List ℕ) (rs : List Range) (pairs : List ℕ) (k : ℕ) : Type 0 where

@@ -1,8 +1,10 @@
 // The plan as it serves an ask: beside each contact its light time and the bytes that are left on it.
+mod lights;
 mod pairs;
 mod serving;
 mod spending;
 
+pub use pairs::BLANK;
 pub use pairs::PAIR_WORDS;
 pub use pairs::PAIRS;
 pub use pairs::UNRANGED;

@@ -14,6 +14,10 @@ pub const PAIR_WORDS: usize = 2;
 // The words beside the most contacts that a plan has.
 pub const PAIRS: usize = MOST_CONTACTS * PAIR_WORDS;
 
+// A word for pairs that are not filled yet. Its bytes are not all the same, so that an array of it is filled
+// word by word and not byte by byte.
+pub const BLANK: u64 = 1;
+
 // The word of a contact that has no light time.
 pub const UNRANGED: u64 = 18_446_744_073_709_551_615;
 

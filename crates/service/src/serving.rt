@@ -1,15 +1,21 @@
 // A plan made ready to serve: each contact's light time and its volume, worked out once.
+use crate::lights::light_along;
 use crate::pairs::PAIR_WORDS;
 use crate::pairs::UNRANGED;
+use lists::BLANK;
+use lists::MOST_ROWS;
+use lists::SLOTS;
+use lists::link;
 use plan::Contact;
 use plan::Light;
 use plan::contact_row;
-use plan::light_time;
 ghost use mathlib.Core.Path.{_≡_};
 ghost use Prim.Native.Nat.{_+_, _*_, _≤_};
 ghost use lib.ListN.{length, set};
 ghost use Rattle.plan.specs.Plan.{GoodContact};
 ghost use Rattle.plan.specs.Tables.{IsPlan, planOf};
+ghost use Rattle.lists.specs.Model.{slots, mostRows};
+ghost use Rattle.service.specs.Model.{RangesListed};
 ghost use Rattle.service.specs.Service.{volume, serviceOf, unused, LightGood};
 ghost use Rattle.service.specs.Tables.{pairWords, lightWord, served};
 
@@ -42,7 +48,57 @@ fn put_pair(pairs: &mut [u64], k: usize, word: u64, left: u64)
     pairs[at + 1] = left;
 }
 
-// Fills the pairs with the plan as it serves an ask, where nothing is used.
+// Fills the pairs with the plan as it serves an ask, by the lists of its ranges.
+fn serve_along(
+    contacts: &[u64],
+    contact_count: usize,
+    ranges: &[u64],
+    range_count: usize,
+    heads: &[u16],
+    nexts: &[u16],
+    pairs: &mut [u64],
+)
+    requires { ⌜ IsPlan (now contacts) «contact_count» (now ranges) «range_count» × RangesListed (now ranges) «range_count» (now heads) (now nexts) × («contact_count» * pairWords ≤ length (now pairs)) ⌝ }
+    ensures { λ _. ⌜ (served (now (contacts .entry)) «contact_count» (now (pairs .exit)) ≡ serviceOf (planOf (now (contacts .entry)) «contact_count» (now (ranges .entry)) «range_count») unused) × (length (now (pairs .exit)) ≡ length (now (pairs .entry))) ⌝ }
+{
+    let mut k: usize = 0;
+    while k < contact_count {
+        let c = contact_row(contacts, k);
+        let light = light_along(ranges, range_count, heads, nexts, c);
+        let word = word_of(light);
+        let left = volume_of(c);
+        put_pair(pairs, k, word, left);
+        k += 1;
+    }
+}
+
+// The same, with the lists made in the lent words.
+fn serve_in(
+    contacts: &[u64],
+    contact_count: usize,
+    ranges: &[u64],
+    range_count: usize,
+    heads: &mut [u16],
+    nexts: &mut [u16],
+    pairs: &mut [u64],
+)
+    requires { ⌜ IsPlan (now contacts) «contact_count» (now ranges) «range_count» × (length (now heads) ≡ slots) × (mostRows ≤ length (now nexts)) × («contact_count» * pairWords ≤ length (now pairs)) ⌝ }
+    ensures { λ _. ⌜ (served (now (contacts .entry)) «contact_count» (now (pairs .exit)) ≡ serviceOf (planOf (now (contacts .entry)) «contact_count» (now (ranges .entry)) «range_count») unused) × (length (now (pairs .exit)) ≡ length (now (pairs .entry))) ⌝ }
+{
+    link(ranges, range_count, heads, nexts);
+    serve_along(
+        contacts,
+        contact_count,
+        ranges,
+        range_count,
+        heads,
+        nexts,
+        pairs,
+    );
+}
+
+// Fills the pairs with the plan as it serves an ask, where nothing is used. The lists have words of
+// their own.
 pub fn serve(
     contacts: &[u64],
     contact_count: usize,
@@ -53,13 +109,15 @@ pub fn serve(
     requires { ⌜ IsPlan (now contacts) «contact_count» (now ranges) «range_count» × («contact_count» * pairWords ≤ length (now pairs)) ⌝ }
     ensures { λ _. ⌜ (served (now (contacts .entry)) «contact_count» (now (pairs .exit)) ≡ serviceOf (planOf (now (contacts .entry)) «contact_count» (now (ranges .entry)) «range_count») unused) × (length (now (pairs .exit)) ≡ length (now (pairs .entry))) ⌝ }
 {
-    let mut k: usize = 0;
-    while k < contact_count {
-        let c = contact_row(contacts, k);
-        let light = light_time(ranges, range_count, c);
-        let word = word_of(light);
-        let left = volume_of(c);
-        put_pair(pairs, k, word, left);
-        k += 1;
-    }
+    let mut heads = [BLANK; SLOTS];
+    let mut nexts = [BLANK; MOST_ROWS];
+    serve_in(
+        contacts,
+        contact_count,
+        ranges,
+        range_count,
+        &mut heads,
+        &mut nexts,
+        pairs,
+    );
 }
