@@ -1,12 +1,12 @@
 -- What the loops over a row know: the one that copies a row, and the one that compares two.
---     Copied                          the first v words of row k + 1 are those of row k, and the rows before are as they were
+--     Copied                          the first v words of row k + 1 are those of row k, and the other rows are as they were
 --     copied-none, copied-more, copied-all
 --     rows-same                       two rows that agree at every node are the same
 -- Assumes nothing.
 use mathlib.Core.List.{List, map}
 use mathlib.Core.Path.{_≡_, refl, sym, ap, _∙_, subst}
 use Prim.Native.Nat.{ℕ, suc, _+_, _*_, _≤_, _<_}
-use native.Mathlib.Nat.{not-suc-le-zero, le-refl}
+use native.Mathlib.Nat.{not-suc-le-zero}
 use native.Mathlib.Numerals.{add-one}
 use native.Mathlib.Omega.{arith}
 use borrow.Author.Count.{below-more}
@@ -26,7 +26,7 @@ rows-same words j k hj hk same =
 pub record Copied (entry words : List ℕ) (k v : ℕ) : Type 0 where
   pub long : length words ≡ length entry
   pub timed : Each TimeWord words
-  pub kept : (j : ℕ) → j ≤ k → rowOf words j ≡ rowOf entry j
+  pub kept : (j : ℕ) → (j ≡ suc k → ⊥) → rowOf words j ≡ rowOf entry j
   pub copied : (i : ℕ) → i < v → getD (rowOf words (suc k)) i 0 ≡ getD (rowOf entry k) i 0
 
 pub copied-none : (entry : List ℕ) (k : ℕ) → Each TimeWord entry → Copied entry entry k 0
@@ -43,7 +43,7 @@ copied-more entry words exit k v w inside h before ew ee =
     record {
       long = ap length e ∙ length-set words (suc k * mostNodes + v) w ∙ before .long;
       timed = subst (Each TimeWord) (sym e) (time-set words (suc k * mostNodes + v) w (before .timed) (subst TimeWord (sym ew) (time-row words k v (before .timed) this-inside h)));
-      kept = λ j l. ap (λ (ws : List ℕ). rowOf ws j) e ∙ row-set-other words j (suc k) v w (omega arith) ∙ before .kept j l;
+      kept = λ j l. ap (λ (ws : List ℕ). rowOf ws j) e ∙ row-set-other words j (suc k) v w l h ∙ before .kept j l;
       copied =
           below-more (λ (i : ℕ). getD (rowOf exit (suc k)) i 0 ≡ getD (rowOf entry k) i 0) v
           (λ i l.
@@ -53,7 +53,7 @@ copied-more entry words exit k v w inside h before ew ee =
           (ap (λ (r : List ℕ). getD r v 0) row
           ∙ getD-set-same (rowOf words (suc k)) v w 0 here
           ∙ ew
-          ∙ ap (λ (r : List ℕ). getD r v 0) (before .kept k (le-refl k)));
+          ∙ ap (λ (r : List ℕ). getD r v 0) (before .kept k (λ e. absurd (omega arith))));
     }
 
 pub copied-all : (entry words : List ℕ) (k v : ℕ) → (k + 2) * mostNodes ≤ length entry → mostNodes ≤ v → Copied entry words k v

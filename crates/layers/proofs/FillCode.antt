@@ -2,16 +2,17 @@
 --     copied-same, next-made      one row out of the one before, by its two steps
 --     RowsTo                      the rows up to k are the network's layers
 --     rows-begin, rows-next, rows-settled, rows-all
+--     older-begin, older-kept, older-next      the row that row k is compared with: at first a blank one, then the row before
 -- Assumes nothing.
 use mathlib.Core.List.{List, _∷_, map}
 use mathlib.Core.Logic.{inl, inr, ⊎-elim}
 use mathlib.Core.Path.{_≡_, refl, sym, ap, _∙_, subst}
 use Prim.Native.Nat.{ℕ, zero, suc, _+_, _-_, _*_, _≤_, _<_}
-use native.Mathlib.Nat.{le-refl, eq-or-lt-of-le, le-of-suc-le-suc, not-suc-le-zero, zero-mul}
+use native.Mathlib.Nat.{le-refl, eq-or-lt-of-le, le-of-suc-le-suc, not-suc-le-zero, zero-mul, mul-le-mul-right}
 use native.Mathlib.Numerals.{add-one}
 use native.Mathlib.Omega.{arith}
 use lib.Dec.{lit≤}
-use lib.ListN.{length, set, take, drop, replicate, length-set, length-replicate, getD-replicate}
+use lib.ListN.{length, getD, set, take, drop, replicate, length-set, length-replicate, getD-replicate}
 use Rattle.units.specs.declared.Ask.{Ask}
 use Rattle.units.specs.Limits.{lastTime, mostLight, mostNodes}
 use Rattle.plan.specs.Plan.{Each}
@@ -19,12 +20,17 @@ use Rattle.service.specs.Service.{Service, blank}
 use Rattle.timing.proofs.ChainCode.{length-served}
 use Rattle.service.specs.Tables.{served}
 use Rattle.walk.specs.Walk.{GoodAsk}
-use Rattle.network.specs.Model.{relaxed, layer}
-use Rattle.network.specs.Network.{When, never, Network}
+use Rattle.network.specs.Model.{behind, relaxed, layer}
+use Rattle.network.specs.Network.{When, never, last, Network, Laws}
+use Rattle.network.proofs.Relaxed.{relaxed-again}
 use Rattle.network.proofs.Theorems.{settled}
 use Rattle.layers.specs.Bridge.{networkOf}
-use Rattle.layers.specs.Words.{neverWord, whenWord, TimeWord, rowOf, layerOf, Layered, blankWords, Filled}
-use Rattle.layers.proofs.RowLaws.{when-never, when-time, layer-set, time-set}
+use Rattle.layers.specs.Words.{neverWord, whenWord, TimeWord, rowOf, layerOf, Layered, Older, blankWords, Filled}
+use Rattle.layers.proofs.RowLaws.{when-never, when-time, getD-row, row-set-other, length-layer-row, getD-layer, layer-set, time-set}
+
+nodes-counted : (p : Service) (ask : Ask) → networkOf p ask .nodes ≡ mostNodes
+unfolding networkOf
+nodes-counted p ask = refl
 
 -- a row is not more than all of them
 square : mostNodes ≤ mostNodes * mostNodes
@@ -32,12 +38,16 @@ unfolding mostNodes
 square = lit≤ tt
 
 -- a row that a step keeps holds the same layer
-layer-kept : (entry exit : List ℕ) (k j : ℕ) {next : List When} → Layered entry exit k next → j ≤ k → layerOf exit j ≡ layerOf entry j
+layer-kept : (entry exit : List ℕ) (k j : ℕ) {next : List When} → Layered entry exit k next → (j ≡ suc k → ⊥) → layerOf exit j ≡ layerOf entry j
 unfolding layerOf
 layer-kept entry exit k j l h = ap (map whenWord) (l .kept j h)
 
+-- so does row k
+layer-this : (entry exit : List ℕ) (k : ℕ) {next : List When} → Layered entry exit k next → layerOf exit k ≡ layerOf entry k
+layer-this entry exit k l = layer-kept entry exit k k l (λ e. absurd (omega arith))
+
 pub copied-same : (entry words : List ℕ) (k : ℕ) → Layered entry words k (layerOf entry k) → layerOf words (k + 1) ≡ layerOf words k
-copied-same entry words k l = ap (layerOf words) (add-one k) ∙ l .is ∙ sym (layer-kept entry words k k l (le-refl k))
+copied-same entry words k l = ap (layerOf words) (add-one k) ∙ l .is ∙ sym (layer-this entry words k l)
 
 pub next-made : (N : Network) (entry words exit : List ℕ) (k m : ℕ) → Layered entry words k (layerOf entry k)
     → Layered words exit k (relaxed N (layerOf words k) m) → Layered entry exit k (relaxed N (layerOf entry k) m)
@@ -45,7 +55,7 @@ next-made N entry words exit k m copy tried = record {
   long = tried .long ∙ copy .long;
   timed = tried .timed;
   kept = λ j l. tried .kept j l ∙ copy .kept j l;
-  is = tried .is ∙ ap (λ (l : List When). relaxed N l m) (layer-kept entry words k k copy (le-refl k));
+  is = tried .is ∙ ap (λ (l : List When). relaxed N l m) (layer-this entry words k copy);
 }
 
 pub record RowsTo (N : Network) (words : List ℕ) (k : ℕ) : Type 0 where
@@ -64,7 +74,7 @@ rows-next N words exit k m em r l = record {
       (λ e.
       let es : j ≡ suc k = e ∙ add-one k in
       rw es (l .is ∙ rw (r .rows k (le-refl k), em)))
-      (λ h'. layer-kept words exit k j l (omega arith) ∙ r .rows j (omega arith))
+      (λ h'. layer-kept words exit k j l (λ e. absurd (omega arith)) ∙ r .rows j (omega arith))
       (eq-or-lt-of-le h);
 }
 
@@ -84,6 +94,25 @@ rows-settled N words k h r same =
 
 pub rows-all : (N : Network) (words : List ℕ) (k : ℕ) → k < mostNodes → k ≡ mostNodes - 1 → RowsTo N words k → Filled N words k
 rows-all N words k h e r = record { most = h; long = r .long; timed = r .timed; rows = r .rows; settled = ap (layer N) (sym e) }
+
+pub older-kept : (N : Network) (entry exit : List ℕ) (old k : ℕ) {next : List When} → Layered entry exit k next → Older N entry old k → Older N exit old k
+older-kept N entry exit old k l o = record {
+  inside = subst (λ (n : ℕ). (old + 1) * mostNodes ≤ n) (sym (l .long)) (o .inside);
+  apart = o .apart;
+  tried = λ c i. rw (layer-kept entry exit k old l (o .apart), layer-this entry exit k l) (o .tried c i);
+}
+
+pub older-next : (p : Service) (ask : Ask) → Laws (networkOf p ask) → (words exit : List ℕ) (k m : ℕ) → networkOf p ask .contacts ≡ m
+    → (k + 2) * mostNodes ≤ length words → Layered words exit k (relaxed (networkOf p ask) (layerOf words k) m) → Older (networkOf p ask) exit k (k + 1)
+older-next p ask laws words exit k m em inside l =
+    let now : layerOf exit (k + 1) ≡ relaxed (networkOf p ask) (layerOf words k) (networkOf p ask .contacts) =
+    ap (layerOf exit) (add-one k) ∙ l .is ∙ ap (relaxed (networkOf p ask) (layerOf words k)) (sym em) in
+    let long : length (layerOf words k) ≡ networkOf p ask .nodes = length-layer-row words k (omega arith) ∙ sym (nodes-counted p ask) in
+    record {
+      inside = omega (arith, l .long);
+      apart = λ e. absurd (omega arith);
+      tried = λ c i. rw (now, layer-this words exit k l) (relaxed-again (networkOf p ask) (layerOf words k) c i (rw long (laws .to-node c i)));
+    }
 
 -- n times the same, cut short and seen through a function
 take-replicate : {A : Type 0} (m n : ℕ) (a : A) → m ≤ n → take m (replicate n a) ≡ replicate m a
@@ -110,7 +139,7 @@ blank-timed blank k h =
     inr (getD-replicate (mostNodes * mostNodes) k neverWord blank (subst (λ (n : ℕ). k < n) (length-replicate (mostNodes * mostNodes) neverWord) h))
 
 -- the words as the code writes them
-pub blank-is : replicate 4096 18_446_744_073_709_551_615 ≡ blankWords
+pub blank-is : replicate 4096 18_446_744_073_709_551_614 ≡ blankWords
 unfolding blankWords mostNodes neverWord
 blank-is = refl
 
@@ -136,6 +165,36 @@ rows-begin p ask good words exit ew ee =
           (ap (λ (ws : List ℕ). layerOf ws 0) e
           ∙ layer-set blankWords 0 (ask .source .0 - 1) (ask .time .0) node
           ∙ rw (blank-layer, when-time (ask .time .0) time));
+    }
+
+-- in the words before any work no row has a node
+blank-entry : (j v : ℕ) → j < mostNodes → v < mostNodes → getD (layerOf blankWords j) v never ≡ never
+unfolding blankWords
+blank-entry j v hj hv =
+    let inside : (j + 1) * mostNodes ≤ mostNodes * mostNodes = mul-le-mul-right mostNodes (omega arith) in
+    getD-layer blankWords j v (rw length-blank inside) hv
+    ∙ ap whenWord (getD-row blankWords j v 0 hv ∙ getD-replicate (mostNodes * mostNodes) (j * mostNodes + v) neverWord 0 (omega arith))
+    ∙ when-never neverWord refl
+
+-- a later row is blank then
+pub older-begin : (p : Service) (ask : Ask) → GoodAsk ask → Laws (networkOf p ask) → (words exit : List ℕ) (old : ℕ) → 1 < old → old < mostNodes
+    → words ≡ blankWords → exit ≡ set words (0 * mostNodes + (ask .source .0 - 1)) (ask .time .0) → Older (networkOf p ask) exit old 0
+unfolding layerOf behind
+older-begin p ask good laws words exit old some most ew ee =
+    let e : exit ≡ set blankWords (0 * mostNodes + (ask .source .0 - 1)) (ask .time .0) =
+    ee ∙ ap (λ (ws : List ℕ). set ws (0 * mostNodes + (ask .source .0 - 1)) (ask .time .0)) ew in
+    let node : ask .source .0 - 1 < mostNodes = omega (arith, good .source-node) in
+    let row : layerOf exit old ≡ layerOf blankWords old =
+    ap (map whenWord) (ap (λ (ws : List ℕ). rowOf ws old) e ∙ row-set-other blankWords old 0 (ask .source .0 - 1) (ask .time .0) (λ z. absurd (omega arith)) node) in
+    let long : length exit ≡ mostNodes * mostNodes = ap length e ∙ length-set blankWords (0 * mostNodes + (ask .source .0 - 1)) (ask .time .0) ∙ length-blank in
+    record {
+      inside = rw long (mul-le-mul-right mostNodes (omega arith));
+      apart = λ z. absurd (omega arith);
+      tried = λ c i same.
+          let from-node : networkOf p ask .from c < mostNodes = rw nodes-counted at (laws .from-node c i) in
+          let none : getD (layerOf exit 0) (networkOf p ask .from c) never ≡ never =
+          sym same ∙ ap (λ (l : List When). getD l (networkOf p ask .from c) never) row ∙ blank-entry old (networkOf p ask .from c) most from-node in
+          rw none last;
     }
 
 -- the network of a lent plan has as many contacts as the tables count

@@ -1,16 +1,15 @@
 -- What the code that fills the layers knows of them.
 --     ends-are                        the ends of a contact that was read from its row
 --     tried-earlier, tried-later      one contact tried, where it reaches its node earlier, and where not
---     none-tried, more-tried          the contacts tried so far
+--     tried-late, tried-before        one that need not be tried: it brings nothing earlier, or was tried before
+--     none-tried, more-tried, tried-lower      the contacts tried so far
 -- Assumes nothing.
 use mathlib.Core.List.{List, map}
 use mathlib.Core.Path.{_≡_, refl, sym, ap, ap₂, _∙_, subst}
 use Prim.Native.Nat.{ℕ, suc, _+_, _-_, _*_, _≤_, _<_}
-use native.Mathlib.Nat.{le-refl}
 use native.Mathlib.Numerals.{add-one}
 use native.Mathlib.Omega.{arith}
 use lib.ListN.{length, getD, set, length-set}
-use lib.Seq.{set-getD}
 use Rattle.units.specs.declared.Ask.{Ask}
 use Rattle.units.specs.Limits.{mostNodes}
 use Rattle.plan.specs.declared.rows.Contact.{Contact}
@@ -20,11 +19,14 @@ use Rattle.service.specs.Service.{Service, contactOf, InPlan}
 use Rattle.service.specs.Tables.{served, IsService}
 use Rattle.timing.proofs.ChainCode.{contact-lent, named-good}
 use Rattle.network.specs.Model.{behind, earlier, relax, relaxed}
-use Rattle.network.specs.Network.{When, never}
+use Rattle.network.specs.Network.{When, never, NotLater, Network}
+use Rattle.network.proofs.Relaxed.{relaxed-not-later, relax-kept}
+use Rattle.network.proofs.Whens.{not-later-trans}
 use Rattle.layers.specs.Bridge.{networkOf}
-use Rattle.layers.specs.Words.{neverWord, whenWord, TimeWord, rowOf, layerOf, Layered, AreEnds}
+use Rattle.layers.specs.Words.{neverWord, whenWord, TimeWord, rowOf, layerOf, Layered, Older, AreEnds}
 use Rattle.layers.proofs.ArriveCode.{Arrives}
-use Rattle.layers.proofs.RowLaws.{when-lower, when-kept, time-most, row-set-other, getD-layer, layer-set, time-set, time-row}
+use Rattle.layers.proofs.NetworkLaws.{in-plan-contact}
+use Rattle.layers.proofs.RowLaws.{when-lower, when-not-later, time-most, row-set-other, getD-layer, layer-set, time-set, time-row}
 
 pub ends-are : (contacts : List ℕ) (m : ℕ) (pairs : List ℕ) (c : ℕ) → IsService contacts m pairs → InPlan (served contacts m pairs) c
     → (x : Contact) → x ≡ contactAt contacts (c - 1) → AreEnds (served contacts m pairs) c (x .from .0 - 1) (x .to .0 - 1)
@@ -38,68 +40,96 @@ ends-are contacts m pairs c plan named x ex =
       to-node = omega (arith, good .to-node);
     }
 
-module _ (p : Service) (ask : Ask) (words : List ℕ) (k c from to arrival : ℕ) (inside : (k + 2) * mostNodes ≤ length words) (timed : Each TimeWord words)
-    (ends : AreEnds p c from to)
-    (ready : ℕ) (er : ready ≡ getD (rowOf words k) from 0) (comes : Arrives p ask c ready arrival) where
-  arrives : Arrives p ask c (getD (rowOf words k) from 0) arrival
-  arrives = subst (λ (w : ℕ). Arrives p ask c w arrival) er comes
+-- a word read from a row is a time word
+pub read-time : (words : List ℕ) (k v w : ℕ) → Each TimeWord words → (k + 1) * mostNodes ≤ length words → v < mostNodes → w ≡ getD (rowOf words k) v 0 → TimeWord w
+read-time words k v w timed inside h e = subst TimeWord (sym e) (time-row words k v timed inside h)
 
-  -- the row behind lies inside the words
-  next-inside : (suc k + 1) * mostNodes ≤ length words
-  next-inside = omega arith
+-- a contact that brings nothing earlier leaves the words
+kept-late : (N : Network) (words : List ℕ) (k c : ℕ) → Each TimeWord words
+    → NotLater (getD (layerOf words (k + 1)) (N .to c) never) (behind N c (getD (layerOf words k) (N .from c) never))
+    → Layered words words k (relax N (layerOf words k) c (layerOf words (k + 1)))
+kept-late N words k c timed late = record {
+  long = refl;
+  timed = timed;
+  kept = λ j l. refl;
+  is = ap (layerOf words) (sym (add-one k)) ∙ sym (relax-kept N (layerOf words k) c (layerOf words (k + 1)) late);
+}
 
-  this-inside : (k + 1) * mostNodes ≤ length words
-  this-inside = omega arith
+-- a row's word of the node that a contact is from, and of the node that it is to
+module _ (p : Service) (ask : Ask) (words : List ℕ) (k c from to : ℕ) (inside : (k + 1) * mostNodes ≤ length words) (ends : AreEnds p c from to) (w : ℕ) where
+  from-word : w ≡ getD (rowOf words k) from 0 → getD (layerOf words k) (networkOf p ask .from c) never ≡ whenWord w
+  unfolding networkOf
+  from-word e = rw (← (ends .from-is), e) (getD-layer words k from inside (ends .from-node))
 
-  -- what the model stores
-  relax-is : relax (networkOf p ask) (layerOf words k) c (layerOf words (suc k))
-      ≡ set (layerOf words (suc k)) to (earlier (whenWord (getD (rowOf words (suc k)) to 0)) (whenWord arrival))
-  unfolding relax networkOf
-  relax-is =
-      rw (← (ends .to-is), ← (ends .from-is), getD-layer words (suc k) to next-inside (ends .to-node), getD-layer words k from this-inside (ends .from-node), arrives .0)
+  to-word : w ≡ getD (rowOf words k) to 0 → getD (layerOf words k) (networkOf p ask .to c) never ≡ whenWord w
+  unfolding networkOf
+  to-word e = rw (← (ends .to-is), e) (getD-layer words k to inside (ends .to-node))
 
-  pub tried-earlier : (exit : List ℕ) (there : ℕ) → there ≡ getD (rowOf words (k + 1)) to 0 → arrival < there → exit ≡ set words ((k + 1) * mostNodes + to) arrival
-      → Layered words exit k (relax (networkOf p ask) (layerOf words k) c (layerOf words (k + 1)))
-  tried-earlier exit there eh h e =
-      let h' : arrival < getD (rowOf words (suc k)) to 0 = rw add-one at (subst (λ (w : ℕ). arrival < w) eh h) in
-      let e' : exit ≡ set words (suc k * mostNodes + to) arrival = rw add-one at e in
-      let lower = when-lower arrival (getD (rowOf words (suc k)) to 0) h' (time-most (getD (rowOf words (suc k)) to 0) (time-row words (suc k) to timed next-inside (ends .to-node))) in
-      rw (e', add-one)
-      (record {
-        long = length-set words (suc k * mostNodes + to) arrival;
-        timed = time-set words (suc k * mostNodes + to) arrival timed (arrives .1);
-        kept = λ j l. row-set-other words j (suc k) to arrival (omega arith);
-        is = layer-set words (suc k) to arrival (ends .to-node) ∙ sym (relax-is ∙ ap (set (layerOf words (suc k)) to) lower);
-      })
+module _ (p : Service) (ask : Ask) (words : List ℕ) (k c from to : ℕ) (inside : (k + 2) * mostNodes ≤ length words) (timed : Each TimeWord words)
+    (ends : AreEnds p c from to) (ready there : ℕ) (er : ready ≡ getD (rowOf words k) from 0) (eh : there ≡ getD (rowOf words (k + 1)) to 0) where
+  ready-is : getD (layerOf words k) (networkOf p ask .from c) never ≡ whenWord ready
+  ready-is = from-word p ask words k c from to (omega arith) ends ready er
 
-  pub tried-later : (there : ℕ) → there ≡ getD (rowOf words (k + 1)) to 0 → there ≤ arrival
+  there-is : getD (layerOf words (k + 1)) (networkOf p ask .to c) never ≡ whenWord there
+  there-is = to-word p ask words (k + 1) c from to (omega arith) ends there eh
+
+  pub tried-late : NotLater (whenWord there) (behind (networkOf p ask) c (whenWord ready))
       → Layered words words k (relax (networkOf p ask) (layerOf words k) c (layerOf words (k + 1)))
-  tried-later there eh h =
-      let h' : getD (rowOf words (suc k)) to 0 ≤ arrival = rw add-one at (subst (λ (w : ℕ). w ≤ arrival) eh h) in
-      let kept-word = when-kept arrival (getD (rowOf words (suc k)) to 0) h' (time-most arrival (arrives .1)) in
-      rw add-one
-      (record {
-        long = refl;
-        timed = timed;
-        kept = λ j l. refl;
-        is =
-            sym
-            (relax-is
-            ∙ ap (set (layerOf words (suc k)) to) (kept-word ∙ sym (getD-layer words (suc k) to next-inside (ends .to-node)))
-            ∙ set-getD (layerOf words (suc k)) to never);
-      })
+  tried-late late = kept-late (networkOf p ask) words k c timed (rw (there-is, ready-is) late)
+
+  module _ (arrival : ℕ) (comes : Arrives p ask c ready arrival) where
+    pub tried-later : there ≤ arrival → Layered words words k (relax (networkOf p ask) (layerOf words k) c (layerOf words (k + 1)))
+    tried-later h = tried-late (subst (NotLater (whenWord there)) (comes .0) (when-not-later there arrival h (time-most arrival (comes .1))))
+
+    -- what the model stores
+    relax-is : arrival < there → relax (networkOf p ask) (layerOf words k) c (layerOf words (k + 1)) ≡ set (layerOf words (k + 1)) to (whenWord arrival)
+    unfolding relax networkOf
+    relax-is h =
+        ap₂ (set (layerOf words (k + 1))) (sym (ends .to-is))
+        (ap₂ earlier there-is (ap (behind (networkOf p ask) c) ready-is ∙ sym (comes .0)) ∙ when-lower arrival there h (time-most there (read-time words (k + 1) to there timed (omega arith) (ends .to-node) eh)))
+
+    pub tried-earlier : (exit : List ℕ) → arrival < there → exit ≡ set words ((k + 1) * mostNodes + to) arrival
+        → Layered words exit k (relax (networkOf p ask) (layerOf words k) c (layerOf words (k + 1)))
+    tried-earlier exit h e =
+        rw e
+        (record {
+          long = length-set words ((k + 1) * mostNodes + to) arrival;
+          timed = time-set words ((k + 1) * mostNodes + to) arrival timed (comes .1);
+          kept = λ j l. row-set-other words j (k + 1) to arrival (λ q. l (q ∙ add-one k)) (ends .to-node);
+          is = ap (layerOf _) (sym (add-one k)) ∙ layer-set words (k + 1) to arrival (ends .to-node) ∙ sym (relax-is h);
+        })
+
+-- a contact tried before from where its first node is: row `old` has the node as row k has it
+pub tried-before : (p : Service) (ask : Ask) (words : List ℕ) (old k c from to : ℕ) → (k + 2) * mostNodes ≤ length words → Each TimeWord words
+    → InPlan p c → AreEnds p c from to → Older (networkOf p ask) words old k
+    → ((v : ℕ) → NotLater (getD (layerOf words (k + 1)) v never) (getD (layerOf words k) v never)) → (before ready : ℕ)
+    → before ≡ getD (rowOf words old) from 0 → ready ≡ getD (rowOf words k) from 0 → before ≡ ready
+    → Layered words words k (relax (networkOf p ask) (layerOf words k) c (layerOf words (k + 1)))
+tried-before p ask words old k c from to inside timed named ends older lower before ready eb er same =
+    let from-old = from-word p ask words old c from to (older .inside) ends before eb in
+    let from-now = from-word p ask words k c from to (omega arith) ends ready er in
+    kept-late (networkOf p ask) words k c timed
+    (not-later-trans (lower _) (older .tried c (in-plan-contact ask named) (from-old ∙ ap whenWord same ∙ sym from-now)))
 
 module _ (p : Service) (ask : Ask) (entry : List ℕ) (k : ℕ) where
   pub none-tried : Each TimeWord entry → layerOf entry (k + 1) ≡ layerOf entry k → Layered entry entry k (relaxed (networkOf p ask) (layerOf entry k) 0)
   unfolding relaxed
   none-tried timed e = record { long = refl; timed = timed; kept = λ j l. refl; is = ap (layerOf entry) (sym (add-one k)) ∙ e }
 
+  -- no entry of row k + 1 is later than that of row k
+  pub tried-lower : (words : List ℕ) (tried : ℕ) → Layered entry words k (relaxed (networkOf p ask) (layerOf entry k) tried)
+      → (v : ℕ) → NotLater (getD (layerOf words (k + 1)) v never) (getD (layerOf words k) v never)
+  unfolding layerOf
+  tried-lower words tried before v =
+      let same : layerOf words k ≡ layerOf entry k = ap (map whenWord) (before .kept k (λ e. absurd (omega arith))) in
+      rw (add-one k, before .is, same) (relaxed-not-later (networkOf p ask) (layerOf entry k) tried v)
+
   pub more-tried : (words exit : List ℕ) (tried : ℕ) → Layered entry words k (relaxed (networkOf p ask) (layerOf entry k) tried)
       → Layered words exit k (relax (networkOf p ask) (layerOf words k) (tried + 1) (layerOf words (k + 1)))
       → Layered entry exit k (relaxed (networkOf p ask) (layerOf entry k) (tried + 1))
   unfolding relaxed layerOf
   more-tried words exit tried before step =
-      let same : layerOf words k ≡ layerOf entry k = ap (map whenWord) (before .kept k (le-refl k)) in
+      let same : layerOf words k ≡ layerOf entry k = ap (map whenWord) (before .kept k (λ e. absurd (omega arith))) in
       record {
         long = step .long ∙ before .long;
         timed = step .timed;

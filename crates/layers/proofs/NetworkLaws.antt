@@ -1,12 +1,13 @@
 -- A valid plan with a good ask is a network that obeys the laws.
 --     contact-in-plan, in-plan-contact      the contacts of the network are those of the plan
 --     step-is            the network's step over a contact of the plan is the hop, or never where the contact is barred
+--     behind-start, behind-ended      nothing comes over a contact before it starts, nor where it is ready after its end
 --     goal-node, goal-apart      the destination is a node of it, and not its source
 --     network-laws       the laws hold
 -- Assumes nothing.
 use mathlib.Core.Bool.{Bool, true, false, not, cond}
-use mathlib.Core.Path.{_≡_, refl, ap}
-use Prim.Native.Nat.{ℕ, _-_, _≤_, _<_}
+use mathlib.Core.Path.{_≡_, refl, ap, _∙_}
+use Prim.Native.Nat.{ℕ, suc, _-_, _≤_, _<_}
 use native.Mathlib.Omega.{arith}
 use borrow.Author.Tests.{le-leb, eq-eqb}
 use lib.ListN.{length}
@@ -23,8 +24,9 @@ use Rattle.timing.specs.Hop.{hopped, isBarred, pickArrival}
 use Rattle.timing.specs.Model.{goesOn, overContact, stepOver, backOver}
 use Rattle.walk.specs.Walk.{GoodAsk}
 use Rattle.timing.proofs.Bounded.{contact-good}
-use Rattle.timing.proofs.HopLaws.{hop-after, hop-sooner, back-enough, back-needed}
-use Rattle.network.specs.Network.{When, at, NotLater, both, last, Within, within, IsContact, Laws}
+use Rattle.timing.proofs.HopLaws.{Hops, over, hop-told, hop-sent, hop-after, hop-sooner, back-enough, back-needed}
+use Rattle.network.specs.Model.{behind}
+use Rattle.network.specs.Network.{When, at, never, NotLater, both, last, Within, within, IsContact, Laws}
 use Rattle.layers.specs.Bridge.{whenOf, backStep, networkOf}
 use Rattle.layers.specs.Bridge.{goal}
 
@@ -64,6 +66,24 @@ module _ (light : Light) (left : ℕ) (x : Contact) (size : ℕ) where
   after-barred false t =
       arrival-not-later (Ready (record { 0 = t })) (hopped light left x size t) (λ y e. (record { 0 = t }, refl, hop-after light left x size t y e))
 
+  start-barred : (bar : Bool) (t : ℕ) → NotLater (at (x .start .0)) (barredHop bar light left x size t)
+  unfolding barredHop
+  start-barred true t = last
+  start-barred false t =
+      arrival-not-later (Ready (x .start)) (hopped light left x size t) (λ y e. (x .start, refl, omega (arith, hop-sent light left x size t y e)))
+
+  ended-barred : (bar : Bool) (t : ℕ) → x .end .0 < t → barredHop bar light left x size t ≡ never
+  unfolding barredHop
+  ended-barred true t h = refl
+  ended-barred false t h = go (hopped light left x size t) (λ y e. ended-unfit y (hop-told light left x size t y e))
+    where
+      ended-unfit : {l : Light} (y : Millis) → Hops left x size t l (y .0) → ⊥
+      ended-unfit y (over fits _ _) = omega arith
+
+      go : (a : Arrival) → ((y : Millis) → a ≡ Ready y → ⊥) → whenOf a ≡ never
+      go (Ready y) none = absurd (none y refl)
+      go Never none = refl
+
   enough-barred : (bar : Bool) (t limit : ℕ) → t < barredBack bar light left x size limit → Within (barredHop bar light left x size t) limit
   unfolding barredHop barredBack
   enough-barred true t limit h = absurd (omega arith)
@@ -85,6 +105,18 @@ step-is p ask c t i =
     turned : (b : Bool) (a : Arrival) → pickArrival (not b) a Never ≡ pickArrival b Never a
     turned true a = refl
     turned false a = refl
+
+-- a file that is ready before a contact of the plan as `w` says
+module _ (p : Service) (ask : Ask) (c : ℕ) (named : InPlan p c) where
+  pub behind-start : (w : When) → NotLater (at (contactOf p c .start .0)) (behind (networkOf p ask) c w)
+  unfolding behind
+  behind-start (at t) = rw (step-is p ask c t named) (start-barred _ _ _ _ _ t)
+  behind-start never = last
+
+  pub behind-ended : (w : When) → NotLater (at (suc (contactOf p c .end .0))) w → behind (networkOf p ask) c w ≡ never
+  unfolding behind
+  behind-ended (at t) (both h) = step-is p ask c t named ∙ ended-barred _ _ _ _ _ t h
+  behind-ended never h = refl
 
 back-is : (p : Service) (ask : Ask) (c limit : ℕ)
     → networkOf p ask .back c limit ≡ barredBack (isBarred ask (contactOf p c)) (lightIn p c) (leftIn p c) (contactOf p c) (ask .size) limit

@@ -1,5 +1,6 @@
 -- Laws of the words that hold the layers.
---     when-time, when-never, when-earlier      what a word says, and the lower of two words
+--     when-time, when-never      what a word says
+--     when-lower, when-not-later      the lower of two words, and of two words in order
 --     length-row, getD-row, row-set, row-set-other      a row, and a store in a row
 --     getD-layer, layer-set, time-set      the same of the layer that a row holds
 -- Assumes nothing.
@@ -14,12 +15,12 @@ use native.Mathlib.Omega.{arith}
 use borrow.Author.Tests.{eq-eqb, ne-eqb}
 use lib.Dec.{eqb}
 use lib.ListN.{length, getD, set, take, drop, length-set, length-take, length-drop, List·getD-map, length-map}
-use lib.Seq.{getD-take, getD-drop, take-set-lt, take-set-le, drop-set-add, getD-set-same, getD-set-other}
+use lib.Seq.{getD-take, getD-drop, take-set-lt, take-set-le, drop-set-add, drop-set-lt, getD-set-same, getD-set-other}
 use Rattle.units.specs.Limits.{lastTime, mostLight, mostNodes}
 use Rattle.plan.specs.Plan.{Each}
 use Rattle.service.specs.Service.{blank}
 use Rattle.network.specs.Model.{earlier}
-use Rattle.network.specs.Network.{When, at, never}
+use Rattle.network.specs.Network.{When, at, never, NotLater, both, last}
 use Rattle.layers.specs.Words.{neverWord, pickWhen, whenWord, TimeWord, rowOf, layerOf}
 
 pub when-never : (w : ℕ) → w ≡ neverWord → whenWord w ≡ never
@@ -46,22 +47,13 @@ when-lower a b h most = go (decLe neverWord b)
         let e : min b a ≡ a = omega arith in
         rw (when-below b hb, when-below a (omega arith), e)
 
-pub when-kept : (a b : ℕ) → b ≤ a → a ≤ neverWord → earlier (whenWord b) (whenWord a) ≡ whenWord b
-unfolding earlier
-when-kept a b h most = go (decLe neverWord a) (decLe neverWord b)
+-- words in order say times in order
+pub when-not-later : (a b : ℕ) → a ≤ b → b ≤ neverWord → NotLater (whenWord a) (whenWord b)
+when-not-later a b h most = go (decLe neverWord b)
   where
-    go : Dec (neverWord ≤ a) → Dec (neverWord ≤ b) → earlier (whenWord b) (whenWord a) ≡ whenWord b
-    go (yes l) (yes k) =
-        let ea : a ≡ neverWord = omega arith in
-        let eb : b ≡ neverWord = omega arith in
-        rw (when-never a ea, when-never b eb)
-    go (yes l) (no k) =
-        let ea : a ≡ neverWord = omega arith in
-        rw (when-never a ea, when-below b (omega arith))
-    go (no l) (yes k) = absurd (omega arith)
-    go (no l) (no k) =
-        let e : min b a ≡ b = omega arith in
-        rw (when-below a (omega arith), when-below b (omega arith), e)
+    go : Dec (neverWord ≤ b) → NotLater (whenWord a) (whenWord b)
+    go (yes l) = let e : b ≡ neverWord = omega arith in rw (when-never b e) last
+    go (no l) = rw (when-below a (omega arith), when-below b (omega arith)) (both h)
 
 pub time-most : (w : ℕ) → TimeWord w → w ≤ neverWord
 unfolding lastTime mostLight neverWord
@@ -96,16 +88,23 @@ unfolding rowOf
 row-set words k v w h =
     ap (take mostNodes) (drop-set-add (k * mostNodes) words v w) ∙ take-set-lt mostNodes (drop (k * mostNodes) words) v w h
 
--- a store in row k leaves the rows before it
-pub row-set-other : (words : List ℕ) (j k v w : ℕ) → j < k → rowOf (set words (k * mostNodes + v) w) j ≡ rowOf words j
+-- a store in row k leaves the other rows
+pub row-set-other : (words : List ℕ) (j k v w : ℕ) → (j ≡ k → ⊥) → v < mostNodes → rowOf (set words (k * mostNodes + v) w) j ≡ rowOf words j
 unfolding rowOf
-row-set-other words j k v w h =
-    let more : (j + 1) * mostNodes ≤ k * mostNodes = mul-le-mul-right mostNodes (omega arith) in
-    let far : mostNodes ≤ (k * mostNodes - j * mostNodes) + v = omega arith in
-    let e : k * mostNodes + v ≡ j * mostNodes + ((k * mostNodes - j * mostNodes) + v) = omega arith in
-    ap (λ (i : ℕ). take mostNodes (drop (j * mostNodes) (set words i w))) e
-    ∙ ap (take mostNodes) (drop-set-add (j * mostNodes) words ((k * mostNodes - j * mostNodes) + v) w)
-    ∙ take-set-le mostNodes (drop (j * mostNodes) words) ((k * mostNodes - j * mostNodes) + v) w far
+row-set-other words j k v w apart h = go (decLe (j + 1) k)
+  where
+    go : Dec (j + 1 ≤ k) → rowOf (set words (k * mostNodes + v) w) j ≡ rowOf words j
+    go (yes l) =
+        let more : (j + 1) * mostNodes ≤ k * mostNodes = mul-le-mul-right mostNodes l in
+        let far : mostNodes ≤ (k * mostNodes - j * mostNodes) + v = omega arith in
+        let e : k * mostNodes + v ≡ j * mostNodes + ((k * mostNodes - j * mostNodes) + v) = omega arith in
+        ap (λ (i : ℕ). take mostNodes (drop (j * mostNodes) (set words i w))) e
+        ∙ ap (take mostNodes) (drop-set-add (j * mostNodes) words ((k * mostNodes - j * mostNodes) + v) w)
+        ∙ take-set-le mostNodes (drop (j * mostNodes) words) ((k * mostNodes - j * mostNodes) + v) w far
+    go (no l) =
+        let after : k + 1 ≤ j = omega arith in
+        let more : (k + 1) * mostNodes ≤ j * mostNodes = mul-le-mul-right mostNodes after in
+        ap (take mostNodes) (drop-set-lt (j * mostNodes) words (k * mostNodes + v) w (omega arith))
 
 pub length-layer-row : (words : List ℕ) (k : ℕ) → (k + 1) * mostNodes ≤ length words → length (layerOf words k) ≡ mostNodes
 unfolding layerOf

@@ -2,6 +2,7 @@
 --     neverWord, whenWord      never as a word, and what a word says
 --     rowOf, layerOf           row k of the words, and the layer that it holds
 --     Layered, Filled          what one step leaves, and what all of them leave
+--     Older                    an earlier row, by which a contact is known to have been tried before
 -- Assumes nothing.
 use mathlib.Core.Bool.{Bool, true, false}
 use mathlib.Core.List.{List, map}
@@ -13,12 +14,12 @@ use lib.ListN.{length, getD, take, drop, replicate}
 use Rattle.units.specs.Limits.{lastTime, mostLight, mostNodes}
 use Rattle.plan.specs.Plan.{Each}
 use Rattle.service.specs.Service.{Service, contactOf}
-use Rattle.network.specs.Model.{layer}
-use Rattle.network.specs.Network.{When, at, never, Network}
+use Rattle.network.specs.Model.{behind, layer}
+use Rattle.network.specs.Network.{When, at, never, NotLater, Network, IsContact}
 
--- never, as a word: the largest there is
+-- never, as a word: later than every time
 unfoldable pub neverWord : ℕ
-neverWord = 18_446_744_073_709_551_615
+neverWord = 18_446_744_073_709_551_614
 
 abbrev pub pickWhen : Bool → When → When → When
 pickWhen true a b = a
@@ -37,12 +38,19 @@ rowOf words k = take mostNodes (drop (k * mostNodes) words)
 unfoldable pub layerOf : List ℕ → ℕ → List When
 layerOf words k = map whenWord (rowOf words k)
 
--- what a step of the work leaves: as many words, each a time word; the rows up to k as they were; row k + 1 holds that layer
+-- what a step of the work leaves: as many words, each a time word; every row but row k + 1 as it was; row k + 1 holds that layer
 pub record Layered (entry exit : List ℕ) (k : ℕ) (next : List When) : Type 0 where
   pub long : length exit ≡ length entry
   pub timed : Each TimeWord exit
-  pub kept : (j : ℕ) → j ≤ k → rowOf exit j ≡ rowOf entry j
+  pub kept : (j : ℕ) → (j ≡ suc k → ⊥) → rowOf exit j ≡ rowOf entry j
   pub is : layerOf exit (suc k) ≡ next
+
+-- row `old` is not row k + 1, and where it has a contact's first node as row k has it, the contact brings nothing earlier than row k has
+pub record Older (N : Network) (words : List ℕ) (old k : ℕ) : Type 0 where
+  pub inside : (old + 1) * mostNodes ≤ length words
+  pub apart : old ≡ suc k → ⊥
+  pub tried : (c : ℕ) → IsContact N c → getD (layerOf words old) (N .from c) never ≡ getD (layerOf words k) (N .from c) never
+      → NotLater (getD (layerOf words k) (N .to c) never) (behind N c (getD (layerOf words k) (N .from c) never))
 
 -- the words before any work: no node reached
 unfoldable pub blankWords : List ℕ

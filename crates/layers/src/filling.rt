@@ -14,16 +14,17 @@ use units::ContactNo;
 use units::Millis;
 ghost use mathlib.Core.Bool.{true};
 ghost use mathlib.Core.Path.{_≡_};
-ghost use Prim.Native.Nat.{_+_, _*_, _≤_, _<_};
-ghost use lib.ListN.{length};
+ghost use Prim.Native.Nat.{ℕ, _+_, _*_, _≤_, _<_};
+ghost use lib.ListN.{length, getD};
 ghost use Rattle.units.specs.Limits.{mostNodes};
 ghost use Rattle.plan.specs.Plan.{Each};
 ghost use Rattle.service.specs.Service.{InPlan};
 ghost use Rattle.service.specs.Tables.{served, IsService};
 ghost use Rattle.walk.specs.Walk.{GoodAsk};
 ghost use Rattle.network.specs.Model.{behind, relax, relaxed};
+ghost use Rattle.network.specs.Network.{never, NotLater};
 ghost use Rattle.layers.specs.Bridge.{networkOf};
-ghost use Rattle.layers.specs.Words.{neverWord, whenWord, TimeWord, rowOf, layerOf, Layered, blankWords, Filled, AreEnds};
+ghost use Rattle.layers.specs.Words.{neverWord, whenWord, TimeWord, rowOf, layerOf, Layered, Older, blankWords, Filled, AreEnds};
 
 // When the file is ready behind the contact, as a word, from when it is ready before it.
 pub fn arrive(
@@ -65,6 +66,31 @@ pub fn ends_of(contacts: &[u64], contact_count: usize, pairs: &[u64], no: Contac
     }
 }
 
+// Whether the times alone show that the contact brings the file no earlier than `there`: it is ready
+// before the contact no earlier than that, or only after the contact's end, or the contact starts no
+// earlier than that.
+fn is_late(
+    contacts: &[u64],
+    contact_count: usize,
+    pairs: &[u64],
+    ask: Ask,
+    no: ContactNo,
+    ready: u64,
+    there: u64,
+) -> bool
+    requires { ⌜ IsService (now contacts) «contact_count» (now pairs) × GoodAsk ask × InPlan (served (now contacts) «contact_count» (now pairs)) (no .0) × TimeWord ready ⌝ }
+    ensures { λ t. ⌜ (t ≡ true → NotLater (whenWord there) (behind (networkOf (served (now (contacts .entry)) «contact_count» (now (pairs .entry))) ask) (no .0) (whenWord ready))) ⌝ }
+{
+    if there <= ready {
+        return true;
+    }
+    let c = contact_numbered(contacts, no);
+    if c.end.0 < ready {
+        return true;
+    }
+    there <= c.start.0
+}
+
 // One contact tried: the node that it is to may be reached earlier by it, out of row k, in row k + 1.
 fn try_contact(
     contacts: &[u64],
@@ -83,10 +109,37 @@ fn try_contact(
     let to = ends.to;
     let next = k + 1;
     let ready = get(words, k, from);
+    let there = get(words, next, to);
+    if is_late(contacts, contact_count, pairs, ask, no, ready, there) {
+        return;
+    }
     let arrival = arrive(contacts, contact_count, pairs, ask, no, ready);
-    if arrival < get(words, next, to) {
+    if arrival < there {
         put(words, next, to, arrival);
     }
+}
+
+// The same. A contact is looked at no further if its first node has in row k the word that it has in row
+// `old`: the contact was tried from there before, or there was nothing to try.
+fn try_changed(
+    contacts: &[u64],
+    contact_count: usize,
+    pairs: &[u64],
+    ask: Ask,
+    words: &mut [u64],
+    old: usize,
+    k: usize,
+    no: ContactNo,
+)
+    requires { ⌜ IsService (now contacts) «contact_count» (now pairs) × GoodAsk ask × InPlan (served (now contacts) «contact_count» (now pairs)) (no .0) × Each TimeWord (now words) × ((k + 2) * mostNodes ≤ length (now words)) ⌝ }
+    requires { ⌜ Older (networkOf (served (now contacts) «contact_count» (now pairs)) ask) (now words) old k × ((v : ℕ) → NotLater (getD (layerOf (now words) (k + 1)) v never) (getD (layerOf (now words) k) v never)) ⌝ }
+    ensures { λ _. ⌜ Layered (now (words .entry)) (now (words .exit)) k (relax (networkOf (served (now (contacts .entry)) «contact_count» (now (pairs .entry))) ask) (layerOf (now (words .entry)) k) (no .0) (layerOf (now (words .entry)) (k + 1))) ⌝ }
+{
+    let from = ends_of(contacts, contact_count, pairs, no).from;
+    if get(words, old, from) == get(words, k, from) {
+        return;
+    }
+    try_contact(contacts, contact_count, pairs, ask, words, k, no);
 }
 
 // The contacts 1 to contact_count tried, one after the other.
@@ -96,44 +149,41 @@ fn try_all(
     pairs: &[u64],
     ask: Ask,
     words: &mut [u64],
+    old: usize,
     k: usize,
 )
-    requires { ⌜ IsService (now contacts) «contact_count» (now pairs) × GoodAsk ask × Each TimeWord (now words) × ((k + 2) * mostNodes ≤ length (now words)) × (layerOf (now words) (k + 1) ≡ layerOf (now words) k) ⌝ }
+    requires { ⌜ IsService (now contacts) «contact_count» (now pairs) × GoodAsk ask × Each TimeWord (now words) × ((k + 2) * mostNodes ≤ length (now words)) × (layerOf (now words) (k + 1) ≡ layerOf (now words) k) × Older (networkOf (served (now contacts) «contact_count» (now pairs)) ask) (now words) old k ⌝ }
     ensures { λ _. ⌜ Layered (now (words .entry)) (now (words .exit)) k (relaxed (networkOf (served (now (contacts .entry)) «contact_count» (now (pairs .entry))) ask) (layerOf (now (words .entry)) k) «contact_count») ⌝ }
 {
     let mut tried: usize = 0;
     while tried < contact_count {
         tried += 1;
-        try_contact(
-            contacts,
-            contact_count,
-            pairs,
-            ask,
-            words,
-            k,
-            ContactNo(tried as u64),
-        );
+        let no = ContactNo(tried as u64);
+        try_changed(contacts, contact_count, pairs, ask, words, old, k, no);
     }
 }
 
-// Layer k + 1 out of layer k, in row k + 1. Answers whether it is known to be the same.
+// Layer k + 1 out of layer k, in row k + 1, where `old` is the row before row k, or a blank one. Answers
+// whether it is known to be the same.
 fn next_row(
     contacts: &[u64],
     contact_count: usize,
     pairs: &[u64],
     ask: Ask,
     words: &mut [u64],
+    old: usize,
     k: usize,
 ) -> bool
-    requires { ⌜ IsService (now contacts) «contact_count» (now pairs) × GoodAsk ask × Each TimeWord (now words) × ((k + 2) * mostNodes ≤ length (now words)) ⌝ }
+    requires { ⌜ IsService (now contacts) «contact_count» (now pairs) × GoodAsk ask × Each TimeWord (now words) × ((k + 2) * mostNodes ≤ length (now words)) × Older (networkOf (served (now contacts) «contact_count» (now pairs)) ask) (now words) old k ⌝ }
     ensures { λ t. ⌜ Layered (now (words .entry)) (now (words .exit)) k (relaxed (networkOf (served (now (contacts .entry)) «contact_count» (now (pairs .entry))) ask) (layerOf (now (words .entry)) k) «contact_count») × (t ≡ true → rowOf (now (words .exit)) (k + 1) ≡ rowOf (now (words .exit)) k) ⌝ }
 {
     copy_row(words, k);
-    try_all(contacts, contact_count, pairs, ask, words, k);
+    try_all(contacts, contact_count, pairs, ask, words, old, k);
     is_same(words, k)
 }
 
-// Fills the rows with the layers and answers the last one worked out: every later layer is the same.
+// Fills the rows with the layers and answers the last one worked out: every later layer is the same. Row 0
+// has none before it, and is held against the last row, which is blank still.
 pub fn fill(
     contacts: &[u64],
     contact_count: usize,
@@ -146,9 +196,11 @@ pub fn fill(
 {
     let source = (ask.source.0 - 1) as usize;
     put(words, 0, source, ask.time.0);
+    let mut old: usize = NODES - 1;
     let mut k: usize = 0;
     while k < NODES - 1 {
-        let done = next_row(contacts, contact_count, pairs, ask, words, k);
+        let done = next_row(contacts, contact_count, pairs, ask, words, old, k);
+        old = k;
         k += 1;
         if done {
             return k;

@@ -8,10 +8,12 @@ ghost use Rattle.units.specs.Limits.{mostNodes};
 ghost use Rattle.plan.specs.Plan.{Each};
 ghost use Rattle.layers.specs.Words.{TimeWord, rowOf, layerOf, Layered};
 
-// The nodes of a row, and never as a word.
+// The nodes of a row.
 pub const NODES: usize = 64;
 
-pub const NEVER: u64 = 18_446_744_073_709_551_615;
+// Never as a word. Its bytes are not all the same, so that an array of it is filled word by word and not
+// byte by byte.
+pub const NEVER: u64 = 18_446_744_073_709_551_614;
 
 // The word of node v in row k.
 pub fn get(words: &[u64], k: usize, v: usize) -> u64

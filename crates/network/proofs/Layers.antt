@@ -84,6 +84,12 @@ module _ (N : Network) (L : Laws N) where
   behind-sooner c i (both h) = L .sooner c _ _ i h
   behind-sooner c i last = last
 
+  -- nothing is ready behind a contact before it is ready before it
+  pub behind-after : (c : ℕ) → IsContact N c → (w : When) → NotLater w (behind N c w)
+  unfolding behind
+  behind-after c i (at t) = L .after c t i
+  behind-after c i never = last
+
   pub earliest-tried : (k c : ℕ) → IsContact N c → NotLater (earliest N (suc k) (N .to c)) (behind N c (earliest N k (N .from c)))
   unfolding earliest
   earliest-tried k c i = relaxed-tried N (layer N k) c (N .contacts) (i .least) (i .most) (rw length-layer (L .to-node c i))

@@ -3,18 +3,20 @@
 --     relaxed-not-later       no entry grows later
 --     relaxed-tried           an entry is no later than what a contact tried brings
 --     relaxed-either          an entry is the one before, or what some contact brings
+--     relax-kept              a contact that brings nothing earlier leaves every entry
+--     relaxed-again           where its first node is as it was in the layer before, a contact brings nothing earlier
 -- Assumes nothing.
-use mathlib.Core.Path.{_≡_, refl, ap, _∙_}
+use mathlib.Core.Path.{_≡_, refl, ap, _∙_, subst}
 use mathlib.Core.List.{List, [], _∷_}
 use mathlib.Core.Logic.{_⊎_, inl, inr}
 use Prim.Native.Nat.{ℕ, zero, suc, _≤_, _<_}
 use native.Mathlib.Nat.{eq-or-lt-of-le, le-of-suc-le-suc, zero-lt-suc, le-of-lt}
 use native.Mathlib.Omega.{arith}
 use lib.ListN.{length, getD, set, length-set}
-use lib.Seq.{getD-set-same}
+use lib.Seq.{getD-set-same, set-getD}
 use Rattle.network.specs.Network.{When, never, NotLater, Network, IsContact}
 use Rattle.network.specs.Model.{earlier, behind, relax, relaxed}
-use Rattle.network.proofs.Whens.{not-later-refl, not-later-trans, earlier-left, earlier-right, earlier-either}
+use Rattle.network.proofs.Whens.{not-later-refl, not-later-trans, earlier-left, earlier-right, earlier-either, earlier-kept}
 
 -- after `set` an entry is the one before, or is the one that was set
 pub getD-set-either : {A : Type 0} (l : List A) (i j : ℕ) (a d : A) → (getD (set l i a) j d ≡ getD l j d) ⊎ ((i ≡ j) × (getD (set l i a) j d ≡ a))
@@ -112,3 +114,15 @@ module _ (N : Network) (before : List When) where
       go (inl e) (inl f) = inl (e ∙ f)
       go (inl e) (inr b) = inr (rw e b)
       go (inr p) _ = inr (record { contact = suc n; is-contact = record { least = zero-lt-suc n; most = h }; to = p .0; is = p .1 })
+
+  pub relax-kept : (c : ℕ) (now : List When) → NotLater (getD now (N .to c) never) (brings N before c) → relax N before c now ≡ now
+  unfolding relax
+  relax-kept c now h = ap (set now (N .to c)) (earlier-kept h) ∙ set-getD now (N .to c) never
+
+  -- it was tried from there before
+  pub relaxed-again : (c : ℕ) → IsContact N c → N .to c < length before
+      → getD before (N .from c) never ≡ getD (relaxed N before (N .contacts)) (N .from c) never
+      → NotLater (getD (relaxed N before (N .contacts)) (N .to c) never) (brings N (relaxed N before (N .contacts)) c)
+  relaxed-again c i h same =
+      subst (λ (w : When). NotLater (getD (relaxed N before (N .contacts)) (N .to c) never) (behind N c w)) same
+      (relaxed-tried c (N .contacts) (i .least) (i .most) h)

@@ -4,6 +4,7 @@
 --     not-later-at, within-at             what is no later than a time, or below a limit, is a time
 --     earlier-left, earlier-right         the earlier of two is no later than either
 --     earlier-either                      the earlier of two is one of the two
+--     earlier-kept                        and the first, where that is no later than the second
 -- Assumes nothing.
 use mathlib.Core.Path.{_≡_, refl, ap}
 use mathlib.Core.Logic.{_⊎_, inl, inr}
@@ -46,6 +47,12 @@ earlier-either (at s) (at t) = go (decLe s t)
     go (no h) = inr (ap at (min-eq-right (le-of-lt (lt-of-not-le h))))
 earlier-either (at s) never = inl refl
 earlier-either never b = inr refl
+
+pub earlier-kept : {a b : When} → NotLater a b → earlier a b ≡ a
+unfolding earlier
+earlier-kept (both h) = ap at (min-eq-left h)
+earlier-kept {a = at s} last = refl
+earlier-kept {a = never} last = refl
 
 pub not-later-times : {s t : ℕ} → NotLater (at s) (at t) → s ≤ t
 not-later-times (both h) = h

@@ -2,9 +2,9 @@
 use crate::length::text_length;
 use crate::put::put_bytes;
 use crate::put::put_rows;
-use plan::is_plan;
 use text::Written;
 use units::Refusal;
+use validity::is_plan;
 ghost use Prim.Native.Nat.{_*_, _≤_};
 ghost use lib.ListN.{length};
 ghost use Rattle.plan.specs.Tables.{words};

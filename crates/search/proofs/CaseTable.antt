@@ -13,7 +13,7 @@ use lib.ListN.{length, drop}
 use Rattle.units.specs.Limits.{mostNodes, lastTime, mostSize, mostRate, mostLight, mostContacts, mostRanges, mostChain}
 use Rattle.units.specs.declared.Ask.{Ask}
 use Rattle.units.specs.declared.Refusal.the-variants.{SameNode, NoChain, TooLate}
-use Rattle.plan.specs.Light.{lightOf}
+use Rattle.plan.specs.Light.{sharedBy, sharedTime, largestLight, lightOf}
 use Rattle.plan.specs.Model.{isValid}
 use Rattle.plan.specs.Plan.{Plan}
 use Rattle.plan.specs.Tables.{words, planOf, IsPlan}
@@ -182,7 +182,7 @@ by-model tables ask answer chain t a apart e after = record {
 }
 
 pub cases-hold : AllMet caseTable
-unfolding caseTable planOf serviceOf leftsFrom volume isValid routeModel routeAfter networkOf delivery chosen figuresOf limitBefore roomOf stepOver isBarred lightOf mostNodes mostSize mostRate mostLight mostContacts mostRanges lastTime
+unfolding caseTable planOf serviceOf leftsFrom volume isValid routeModel routeAfter networkOf delivery chosen figuresOf limitBefore roomOf stepOver isBarred sharedBy sharedTime largestLight lightOf mostNodes mostSize mostRate mostLight mostContacts mostRanges lastTime
 cases-hold =
     more (by-model plan-AG _ _ _ refl refl refl refl (λ before. refl))
     (more (by-model plan-AG _ _ _ refl refl refl refl (λ before. refl))

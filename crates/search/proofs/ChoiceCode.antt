@@ -1,7 +1,6 @@
 -- What the code of the choice knows of the model.
 --     when-injective            two words that say the same are the same
---     within-word               a word below the limit, and a time within it
---     leads-elsewhere, leads-by      whether a contact leads, by the tests in their order
+--     leads-elsewhere, leads-never, leads-by      whether a contact leads, by the tests in their order
 --     lowest-begins, lowest-goes, lowest-stops, lowest-ends      the contacts still to be tried
 -- Assumes nothing.
 use mathlib.Core.Bool.{Bool, true, false, _&&_, cond}
@@ -46,28 +45,34 @@ when-injective a b ha hb e = go (decLe neverWord a) (decLe neverWord b)
         let tb : whenWord b ≡ at b = when-below b (omega arith) in
         cc
 
--- a word is below a limit that is no more than a word exactly where the time that it says is within it
-pub within-word : (w limit : ℕ) → w ≤ neverWord → limit ≤ neverWord → isWithin (whenWord w) limit ≡ ltb w limit
+-- a word that says a time is below a limit exactly where that time is within it
+within-word : (w limit : ℕ) → w < neverWord → isWithin (whenWord w) limit ≡ ltb w limit
 unfolding isWithin
-within-word w limit hw hl = go (decLe neverWord w)
-  where
-    go : Dec (neverWord ≤ w) → isWithin (whenWord w) limit ≡ ltb w limit
-    go (yes l) = rw (when-never w (omega arith), le-ltb w limit (omega arith))
-    go (no l) = rw (when-below w (omega arith))
+within-word w limit h = rw (when-below w h)
 
 module _ (p : Service) (ask : Ask) (words : List ℕ) (k v limit c from to : ℕ) (ends : AreEnds p c from to) where
   pub leads-elsewhere : (to ≡ v → ⊥) → false ≡ leads (networkOf p ask) (layerOf words k) v limit c
   unfolding leads networkOf
   leads-elsewhere h = rw (← (ends .to-is), ne-eqb to v h)
 
-  pub leads-by : to ≡ v → (k + 1) * mostNodes ≤ length words → limit ≤ neverWord → (ready arrival : ℕ) → ready ≡ getD (rowOf words k) from 0
-      → Arrives p ask c ready arrival → ltb arrival limit ≡ leads (networkOf p ask) (layerOf words k) v limit c
-  unfolding leads networkOf
-  leads-by h inside hl ready arrival er arrives =
-      let read : getD (layerOf words k) (contactOf p c .from .0 - 1) never ≡ whenWord ready =
-      ap (λ (i : ℕ). getD (layerOf words k) i never) (sym (ends .from-is)) ∙ getD-layer words k from inside (ends .from-node) ∙ ap whenWord (sym er) in
-      rw (← (ends .to-is), eq-eqb to v h, read, ← (arrives .0))
-      (sym (within-word arrival limit (time-most arrival (arrives .1)) hl))
+  module _ (h : to ≡ v) (inside : (k + 1) * mostNodes ≤ length words) (ready arrival : ℕ) (er : ready ≡ getD (rowOf words k) from 0)
+      (arrives : Arrives p ask c ready arrival) where
+    by-arrival : isWithin (whenWord arrival) limit ≡ leads (networkOf p ask) (layerOf words k) v limit c
+    unfolding leads networkOf
+    by-arrival =
+        let read : getD (layerOf words k) (contactOf p c .from .0 - 1) never ≡ whenWord ready =
+        ap (λ (i : ℕ). getD (layerOf words k) i never) (sym (ends .from-is)) ∙ getD-layer words k from inside (ends .from-node) ∙ ap whenWord (sym er) in
+        rw (← (ends .to-is), eq-eqb to v h, read, ← (arrives .0))
+
+    pub leads-never : arrival ≡ neverWord → false ≡ leads (networkOf p ask) (layerOf words k) v limit c
+    unfolding isWithin
+    leads-never e = rw (when-never arrival e) at by-arrival
+
+    pub leads-by : (arrival ≡ neverWord → ⊥) → ltb arrival limit ≡ leads (networkOf p ask) (layerOf words k) v limit c
+    leads-by some =
+        let most = time-most arrival (arrives .1) in
+        let below : arrival < neverWord = omega (arith, most, some) in
+        sym (within-word arrival limit below) ∙ by-arrival
 
 module _ (N : Network) (before : List When) (v limit m tried : ℕ) where
   pub lowest-begins : N .contacts ≡ m → lowest N before v limit ≡ lowestFrom N before v limit 1 (m - 0)

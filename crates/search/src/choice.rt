@@ -1,5 +1,6 @@
 // The choice: the fewest contacts at the best delivery, and the chain worked back from its last
 // contact, the lowest number first.
+use layers::NEVER;
 use layers::arrive;
 use layers::ends_of;
 use layers::get;
@@ -60,7 +61,11 @@ fn is_leading(
         return false;
     }
     let ready = get(words, k, from);
-    arrive(contacts, contact_count, pairs, ask, no, ready) < limit
+    let arrival = arrive(contacts, contact_count, pairs, ask, no, ready);
+    if arrival == NEVER {
+        return false;
+    }
+    arrival < limit
 }
 
 // The lowest contact that leads there, or 0.

@@ -5,13 +5,14 @@ use crate::choice::first_row;
 use layers::NEVER;
 use layers::fill;
 use layers::get;
-use plan::is_plan;
+use service::BLANK;
 use service::PAIRS;
 use service::serve;
 use units::Ask;
 use units::MOST_CHAIN;
 use units::Millis;
 use units::Refusal;
+use validity::is_plan;
 use walk::figures_of;
 use walk::is_good_ask;
 ghost use mathlib.Core.Path.{_≡_};
@@ -114,7 +115,7 @@ fn route_plan(
     requires { ⌜ IsPlan (now contacts) «contact_count» (now ranges) «range_count» × GoodAsk ask × (ask .source .0 ≡ ask .destination .0 → ⊥) × (mostChain ≤ length (now chain)) ⌝ }
     ensures { λ r. ⌜ (r ≡ routeModel (serviceOf (planOf (now (contacts .entry)) «contact_count» (now (ranges .entry)) «range_count») unused) ask) × (now (chain .exit) ≡ routeAfter (serviceOf (planOf (now (contacts .entry)) «contact_count» (now (ranges .entry)) «range_count») unused) ask (now (chain .entry))) ⌝ }
 {
-    let mut pairs = [0u64; PAIRS];
+    let mut pairs = [BLANK; PAIRS];
     route_through(
         contacts,
         contact_count,

@@ -1,4 +1,4 @@
--- `layers::filling::fill` meets its contract. The loop's invariant: the rows up to k are the network's layers.
+-- `layers::filling::fill` meets its contract. The loop's invariant: the rows up to k are the network's layers, and row `old` is older than row k.
 -- Assumes nothing.
 use mathlib.Core.Path.{_≡_, sym, ap, _∙_}
 use Prim.Native.Nat.{_-_, _≤_}
@@ -7,16 +7,20 @@ use lib.ListN.{length}
 use Rattle.units.specs.Limits.{mostNodes}
 use Rattle.service.specs.Tables.{served}
 use Rattle.layers.specs.Bridge.{networkOf}
-use Rattle.layers.proofs.FillCode.{RowsTo, length-blank, contacts-counted, rows-begin, rows-next, rows-settled, rows-all}
+use Rattle.layers.specs.Words.{Older}
+use Rattle.layers.proofs.FillCode.{RowsTo, length-blank, contacts-counted, rows-begin, rows-next, rows-settled, rows-all, older-begin, older-next}
+use Rattle.layers.proofs.NetworkLaws.{network-laws}
 use Rattle.layers.proofs.filling.fill.Statement.{statement}
 use Rattle.layers.proofs.filling.fill.Tie as tie
 
 abbrev Inv-loop : tie.InvT-loop
-Inv-loop contacts contact-count pairs ask words₀ source k₀ words k =
-    (k ≤ 63) × RowsTo (networkOf (served contacts contact-count pairs) ask) words k
+Inv-loop contacts contact-count pairs ask words₀ source old₀ k₀ words old k =
+    (k ≤ 63)
+    × RowsTo (networkOf (served contacts contact-count pairs) ask) words k
+    × Older (networkOf (served contacts contact-count pairs) ask) words old k
 
 abbrev μ-loop : tie.MeasureT-loop
-μ-loop contacts contact-count pairs ask words₀ source k₀ words k = 63 - k
+μ-loop contacts contact-count pairs ask words₀ source old₀ k₀ words old k = 63 - k
 
 sub-source : tie.Need-sub-source Inv-loop μ-loop
 sub-source c = c .before .before .before .before .pre .1 .source-node .least
@@ -27,10 +31,18 @@ put-requires c κs =
     let pre = c .before .before .before .before .before .pre in
     omega (arith, pre .1 .source-node, ap length (pre .2) ∙ length-blank)
 
+sub-old : tie.Need-sub-old Inv-loop μ-loop
+sub-old c = omega arith
+
 loop-holds : tie.Need-loop-holds Inv-loop μ-loop
+unfolding mostNodes
 loop-holds c =
     let pre = c .before .before .before .before .before .before .before .before .pre in
-    (omega arith, rows-begin _ _ (pre .1) _ _ (pre .2) (c .before .before .put .ensures))
+    let stored = c .before .before .put .ensures in (
+      omega arith,
+      rows-begin _ _ (pre .1) _ _ (pre .2) stored,
+      older-begin _ _ (pre .1) (network-laws _ (pre .0 .sound) _ (pre .1)) _ _ _ (omega arith) (omega arith) (pre .2) stored,
+    )
 
 sub-loop : tie.Need-sub-loop Inv-loop μ-loop
 sub-loop c = omega arith
@@ -41,7 +53,7 @@ next-row-requires c κs =
     let at-loop = c .before .before in
     let rows = at-loop .loop .inv .1 in
     let pre = at-loop .before .before .before .before .before .before .before .before .before .pre in
-    (pre .0, pre .1, rows .timed, omega (arith, rows .long, c .before .loop-test .taken))
+    (pre .0, pre .1, rows .timed, omega (arith, rows .long, c .before .loop-test .taken), at-loop .loop .inv .2)
 
 add-k : tie.Need-add-k Inv-loop μ-loop
 add-k c = omega (arith, c .before .before .before .before .loop-test .taken)
@@ -66,12 +78,18 @@ loop-less : tie.Need-loop-less Inv-loop μ-loop
 loop-less c = omega (arith, c .before .before .before .before .before .loop-test .taken)
 
 loop-again : tie.Need-loop-again Inv-loop μ-loop
+unfolding mostNodes
 loop-again c =
     let at-next = c .before .before .before in
     let at-test = at-next .before .before in
-    let next = at-next .next-row .ensures in
-    let rows = rows-next _ _ _ _ _ (contacts-counted _ _ _ _) (at-test .before .loop .inv .1) (next .0) in
-    (omega (arith, at-test .loop-test .taken), rows)
+    let at-loop = at-test .before in
+    let pre = at-loop .before .before .before .before .before .before .before .before .before .pre in
+    let rows = at-loop .loop .inv .1 in
+    let next = at-next .next-row .ensures .0 in (
+      omega (arith, at-test .loop-test .taken),
+      rows-next _ _ _ _ _ (contacts-counted _ _ _ _) rows next,
+      older-next _ _ (network-laws _ (pre .0 .sound) _ (pre .1)) _ _ _ _ (contacts-counted _ _ _ _) (omega (arith, rows .long, at-test .loop-test .taken)) next,
+    )
 
 same-length-2 : tie.Need-same-length-2 Inv-loop μ-loop
 same-length-2 c =
@@ -94,6 +112,7 @@ fill-spec =
     μ-loop
     sub-source
     put-requires
+    sub-old
     loop-holds
     sub-loop
     next-row-requires

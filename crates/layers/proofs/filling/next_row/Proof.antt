@@ -2,7 +2,7 @@
 -- Assumes nothing.
 use native.Mathlib.Omega.{arith}
 use borrow.Author.Needs.{needs}
-use Rattle.layers.proofs.FillCode.{copied-same, next-made}
+use Rattle.layers.proofs.FillCode.{copied-same, next-made, older-kept}
 use Rattle.layers.proofs.filling.next_row.Statement.{statement}
 use Rattle.layers.proofs.filling.next_row.Tie as tie
 
@@ -14,7 +14,7 @@ try-all-requires c κs =
     let at-copy = c .before .before .before in
     let pre = at-copy .before .before .before .before .before .pre in
     let copy = at-copy .copy-row .ensures in
-    (pre .0, pre .1, copy .timed, omega (arith, copy .long, pre .3), copied-same _ _ _ copy)
+    (pre .0, pre .1, copy .timed, omega (arith, copy .long, pre .3), copied-same _ _ _ copy, older-kept _ _ _ _ _ copy (pre .4))
 
 is-same-requires : tie.Need-is-same-requires
 is-same-requires c κs =

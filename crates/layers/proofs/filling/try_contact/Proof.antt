@@ -2,11 +2,8 @@
 -- Assumes nothing.
 use native.Mathlib.Omega.{arith}
 use borrow.Author.Needs.{needs}
-use mathlib.Core.Path.{sym, subst}
 use Rattle.units.specs.Limits.{mostNodes}
-use Rattle.layers.specs.Words.{TimeWord}
-use Rattle.layers.proofs.LayerCode.{tried-earlier, tried-later}
-use Rattle.layers.proofs.RowLaws.{time-row}
+use Rattle.layers.proofs.LayerCode.{read-time, tried-late, tried-earlier, tried-later}
 use Rattle.layers.proofs.filling.try_contact.Statement.{statement}
 use Rattle.layers.proofs.filling.try_contact.Tie as tie
 
@@ -20,43 +17,64 @@ add-next c = let start = c .before .before .before .before in omega (arith, star
 get-requires : tie.Need-get-requires
 get-requires c κs = search needs
 
-arrive-requires : tie.Need-arrive-requires
-arrive-requires c κs =
-    let pre = c .before .before .before .before .before .before .pre in (
-      pre .0,
-      pre .1,
-      pre .2,
-      subst TimeWord (sym (c .get .ensures)) (time-row _ _ _ (pre .3) (omega (arith, pre .4)) (c .before .before .ends-of .ensures .from-node)),
-    )
-
 get-requires-2 : tie.Need-get-requires-2
 get-requires-2 c κs = search needs
 
-put-requires : tie.Need-put-requires
-put-requires c κs = search needs
+is-late-requires : tie.Need-is-late-requires
+is-late-requires c κs =
+    let at-get = c .before .before in
+    let at-ends = at-get .before .before in
+    let pre = at-ends .before .before .before .before .pre in
+    (pre .0, pre .1, pre .2, read-time _ _ _ _ (pre .3) (omega (arith, pre .4)) (at-ends .ends-of .ensures .from-node) (at-get .get .ensures))
 
 same-length : tie.Need-same-length
 same-length c = search needs
 
 returns : tie.Need-returns
 returns c =
-    let at-get2 = c .before .before .before .before .before in
-    let at-arrive = at-get2 .before .before in
-    let at-ends = at-arrive .before .before .before in
+    let at-get2 = c .before .before in
+    let at-get = at-get2 .before .before in
+    let at-ends = at-get .before .before in
     let pre = at-ends .before .before .before .before .pre in
-    tried-earlier _ _ _ _ _ _ _ _ (pre .4) (pre .3) (at-ends .ends-of .ensures) _ (at-arrive .before .get .ensures) (at-arrive .arrive .ensures) _ _
-    (at-get2 .get2 .ensures) (c .before .before .before .before .if1 .taken) (c .before .before .put .ensures)
+    tried-late _ _ _ _ _ _ _ (pre .4) (pre .3) (at-ends .ends-of .ensures) _ _ (at-get .get .ensures) (at-get2 .get2 .ensures)
+    (c .before .is-late .ensures (c .if1 .taken))
+
+arrive-requires : tie.Need-arrive-requires
+arrive-requires c κs =
+    let at-get = c .before .before .before .before in
+    let at-ends = at-get .before .before in
+    let pre = at-ends .before .before .before .before .pre in
+    (pre .0, pre .1, pre .2, read-time _ _ _ _ (pre .3) (omega (arith, pre .4)) (at-ends .ends-of .ensures .from-node) (at-get .get .ensures))
+
+put-requires : tie.Need-put-requires
+put-requires c κs = search needs
 
 same-length-2 : tie.Need-same-length-2
 same-length-2 c = search needs
 
 returns-2 : tie.Need-returns-2
 returns-2 c =
-    let at-arrive = c .before .before .before in
-    let at-ends = at-arrive .before .before .before in
+    let at-if2 = c .before .before .before .before in
+    let at-arrive = at-if2 .before in
+    let at-get2 = at-arrive .before .before .before in
+    let at-get = at-get2 .before .before in
+    let at-ends = at-get .before .before in
     let pre = at-ends .before .before .before .before .pre in
-    tried-later _ _ _ _ _ _ _ _ (pre .4) (pre .3) (at-ends .ends-of .ensures) _ (at-arrive .before .get .ensures) (at-arrive .arrive .ensures) _
-    (c .before .get2 .ensures) (c .if1 .left)
+    tried-earlier _ _ _ _ _ _ _ (pre .4) (pre .3) (at-ends .ends-of .ensures) _ _ (at-get .get .ensures) (at-get2 .get2 .ensures) _
+    (at-arrive .arrive .ensures) _ (at-if2 .if2 .taken) (c .before .before .put .ensures)
+
+same-length-3 : tie.Need-same-length-3
+same-length-3 c = search needs
+
+returns-3 : tie.Need-returns-3
+returns-3 c =
+    let at-arrive = c .before in
+    let at-get2 = at-arrive .before .before .before in
+    let at-get = at-get2 .before .before in
+    let at-ends = at-get .before .before in
+    let pre = at-ends .before .before .before .before .pre in
+    tried-later _ _ _ _ _ _ _ (pre .4) (pre .3) (at-ends .ends-of .ensures) _ _ (at-get .get .ensures) (at-get2 .get2 .ensures) _
+    (at-arrive .arrive .ensures) (c .if2 .left)
 
 pub try-contact-spec : {M : Type 1} → statement M
 try-contact-spec =
@@ -65,10 +83,13 @@ try-contact-spec =
     ends-of-requires
     add-next
     get-requires
-    arrive-requires
     get-requires-2
-    put-requires
+    is-late-requires
     same-length
     returns
+    arrive-requires
+    put-requires
     same-length-2
-    returns-2)
+    returns-2
+    same-length-3
+    returns-3)

@@ -1,10 +1,9 @@
 -- `search::choice::is_leading` meets its contract.
 -- Assumes nothing.
 use mathlib.Core.Path.{sym, subst}
-use native.Mathlib.Omega.{arith}
 use borrow.Author.Needs.{needs}
 use Rattle.layers.specs.Words.{TimeWord, neverWord}
-use Rattle.search.proofs.ChoiceCode.{leads-elsewhere, leads-by}
+use Rattle.search.proofs.ChoiceCode.{leads-elsewhere, leads-never, leads-by}
 use Rattle.layers.proofs.RowLaws.{time-row}
 use Rattle.search.proofs.choice.is_leading.Statement.{statement}
 use Rattle.search.proofs.choice.is_leading.Tie as tie
@@ -26,9 +25,18 @@ arrive-requires c κs =
 returns-2 : tie.Need-returns-2
 unfolding neverWord
 returns-2 c =
-    let start = c .before .before .before .before .before .before .before in
-    leads-by _ _ _ _ _ _ _ _ _ (c .before .before .before .ends-of .ensures) (c .before .before .if1 .left) (start .pre .4) (omega (arith, start .fits .limit)) _ _
-    (c .before .get .ensures) (c .arrive .ensures)
+    let at-ends = c .before .before .before .before in
+    let start = at-ends .before .before .before .before in
+    leads-never _ _ _ _ _ _ _ _ _ (at-ends .ends-of .ensures) (c .before .before .before .if1 .left) (start .pre .4) _ _ (c .before .before .get .ensures)
+    (c .before .arrive .ensures) (c .if2 .taken)
+
+returns-3 : tie.Need-returns-3
+unfolding neverWord
+returns-3 c =
+    let at-ends = c .before .before .before .before in
+    let start = at-ends .before .before .before .before in
+    leads-by _ _ _ _ _ _ _ _ _ (at-ends .ends-of .ensures) (c .before .before .before .if1 .left) (start .pre .4) _ _ (c .before .before .get .ensures)
+    (c .before .arrive .ensures) (c .if2 .left)
 
 pub is-leading-spec : {M : Type 1} → statement M
-is-leading-spec = tie.close (tie.spec ends-of-requires returns get-requires arrive-requires returns-2)
+is-leading-spec = tie.close (tie.spec ends-of-requires returns get-requires arrive-requires returns-2 returns-3)

@@ -1,0 +1,48 @@
+-- `layers::filling::try_changed` meets its contract.
+-- Assumes nothing.
+use borrow.Author.Needs.{needs}
+use Rattle.layers.proofs.LayerCode.{tried-before}
+use Rattle.layers.proofs.filling.try_changed.Statement.{statement}
+use Rattle.layers.proofs.filling.try_changed.Tie as tie
+
+ends-of-requires : tie.Need-ends-of-requires
+ends-of-requires c κs = search needs
+
+get-requires : tie.Need-get-requires
+get-requires c κs = search needs
+
+get-requires-2 : tie.Need-get-requires-2
+get-requires-2 c κs = search needs
+
+same-length : tie.Need-same-length
+same-length c = search needs
+
+returns : tie.Need-returns
+returns c =
+    let at-get = c .before .before .before in
+    let at-ends = at-get .before .before in
+    let pre = at-ends .before .before .before .before .pre in
+    tried-before _ _ _ _ _ _ _ _ (pre .0 .4) (pre .0 .3) (pre .0 .2) (at-ends .ends-of .ensures) (pre .1 .0) (pre .1 .1) _ _ (at-get .get .ensures)
+    (c .before .get2 .ensures) (c .if1 .taken)
+
+try-contact-requires : tie.Need-try-contact-requires
+try-contact-requires c κs = search needs
+
+same-length-2 : tie.Need-same-length-2
+same-length-2 c = search needs
+
+returns-2 : tie.Need-returns-2
+returns-2 c = search needs
+
+pub try-changed-spec : {M : Type 1} → statement M
+try-changed-spec =
+    tie.close
+    (tie.spec
+    ends-of-requires
+    get-requires
+    get-requires-2
+    same-length
+    returns
+    try-contact-requires
+    same-length-2
+    returns-2)

@@ -1,0 +1,84 @@
+// The rows linked, from the last to the first, the first row of a pair and the next row of a row.
+use plan::Span;
+use plan::span_row;
+ghost use mathlib.Core.Path.{_≡_};
+ghost use Prim.Native.Nat.{ℕ, _<_};
+ghost use lib.ListN.{length, getD};
+ghost use Rattle.lists.specs.Lists.{Linked, pairSlot, slotAt};
+ghost use Rattle.lists.specs.Model.{slots, IsPair, Linkable};
+
+// How many slots there are, one for each pair of nodes: 64 × 64.
+pub const SLOTS: usize = 4096;
+
+// The most rows that are linked.
+pub const MOST_ROWS: usize = 512;
+
+// A word for lists that are not made yet. Its bytes are not all the same, so that an array of it is filled
+// word by word and not byte by byte.
+pub const BLANK: u16 = 1;
+
+// A row in 16 bits.
+fn narrow(row: usize) -> u16
+    requires { ⌜ row < 65_536 ⌝ }
+    ensures { λ r. ⌜ r ≡ row ⌝ }
+{
+    row as u16
+}
+
+// A row of 16 bits as an index.
+fn wide(row: u16) -> usize
+    ensures { λ r. ⌜ r ≡ row ⌝ }
+{
+    row as usize
+}
+
+// The slot of the pair of nodes.
+fn slot_of(s: Span) -> usize
+    requires { ⌜ IsPair s ⌝ }
+    ensures { λ r. ⌜ (r ≡ pairSlot s) × (r < slots) ⌝ }
+{
+    ((s.one.0 - 1) * 64 + (s.other.0 - 1)) as usize
+}
+
+// Sets each word to that one.
+fn fill(heads: &mut [u16], word: u16)
+    ensures { λ _. ⌜ (length (now (heads .exit)) ≡ length (now (heads .entry))) × ((s : ℕ) → s < length (now (heads .entry)) → getD (now (heads .exit)) s 0 ≡ word) ⌝ }
+{
+    let mut s = 0;
+    while s < heads.len() {
+        heads[s] = word;
+        s += 1;
+    }
+}
+
+// Links the first n rows of a table: `heads` has the first row of each slot, and `nexts` for each row
+// the next one of its slot, with n where there is none.
+pub fn link(table: &[u64], n: usize, heads: &mut [u16], nexts: &mut [u16])
+    requires { ⌜ Linkable (now table) n (now heads) (now nexts) ⌝ }
+    ensures { λ _. ⌜ Linked (slotAt (now (table .entry))) n (now (heads .exit)) (now (nexts .exit)) × (length (now (heads .exit)) ≡ length (now (heads .entry))) × (length (now (nexts .exit)) ≡ length (now (nexts .entry))) ⌝ }
+{
+    fill(heads, narrow(n));
+    let mut i = n;
+    while 0 < i {
+        i -= 1;
+        let slot = slot_of(span_row(table, i));
+        nexts[i] = heads[slot];
+        heads[slot] = narrow(i);
+    }
+}
+
+// The first row of the pair of nodes.
+pub fn head_of(heads: &[u16], s: Span) -> usize
+    requires { ⌜ IsPair s × (length (now heads) ≡ slots) ⌝ }
+    ensures { λ r. ⌜ r ≡ getD (now (heads .entry)) (pairSlot s) 0 ⌝ }
+{
+    wide(heads[slot_of(s)])
+}
+
+// The row behind row i in its list.
+pub fn next_of(nexts: &[u16], i: usize) -> usize
+    requires { ⌜ i < length (now nexts) ⌝ }
+    ensures { λ r. ⌜ r ≡ getD (now (nexts .entry)) i 0 ⌝ }
+{
+    wide(nexts[i])
+}
