@@ -1,9 +1,9 @@
 // The checks that come before every call over a plan with its book.
 use book::is_book;
-use plan::is_plan;
 use units::Ask;
 use units::MOST_CLASS;
 use units::Refusal;
+use validity::is_plan;
 use walk::is_good_ask;
 ghost use Rattle.booking.specs.Booked.{Checked};
 

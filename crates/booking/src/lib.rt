@@ -6,5 +6,7 @@ mod serving;
 mod walks;
 
 pub use checking::Check;
+pub use checking::checks;
 pub use routes::route_booked;
+pub use routes::route_good;
 pub use walks::walk_booked;

@@ -4,6 +4,7 @@ use crate::checking::checks;
 use crate::serving::serve_booked;
 use search::Routed;
 use search::route_served;
+use service::BLANK;
 use service::PAIRS;
 use units::Ask;
 use units::MOST_CHAIN;
@@ -49,7 +50,7 @@ fn route_through(
 }
 
 // The same, with that table on the stack.
-fn route_good(
+pub fn route_good(
     contacts: &[u64],
     contact_count: usize,
     ranges: &[u64],
@@ -63,7 +64,7 @@ fn route_good(
     requires { ⌜ Good (now contacts) «contact_count» (now ranges) «range_count» (now book) (now chains) ask class × (mostChain ≤ length (now chain)) ⌝ }
     ensures { λ r. ⌜ (r ≡ routeModel (withBook (planOf (now (contacts .entry)) «contact_count» (now (ranges .entry)) «range_count») (bookOf (now (book .entry)) (now (chains .entry))) class) ask) × (now (chain .exit) ≡ routeAfter (withBook (planOf (now (contacts .entry)) «contact_count» (now (ranges .entry)) «range_count») (bookOf (now (book .entry)) (now (chains .entry))) class) ask (now (chain .entry))) ⌝ }
 {
-    let mut pairs = [0u64; PAIRS];
+    let mut pairs = [BLANK; PAIRS];
     route_through(
         contacts,
         contact_count,

@@ -2,6 +2,7 @@
 use crate::checking::Check;
 use crate::checking::checks;
 use crate::serving::serve_booked;
+use service::BLANK;
 use service::PAIRS;
 use units::Ask;
 use walk::Walked;
@@ -61,7 +62,7 @@ fn walk_good(
     requires { ⌜ Good (now contacts) «contact_count» (now ranges) «range_count» (now book) (now chains) ask class ⌝ }
     ensures { λ r. ⌜ r ≡ walkModel (withBook (planOf (now (contacts .entry)) «contact_count» (now (ranges .entry)) «range_count») (bookOf (now (book .entry)) (now (chains .entry))) class) ask (now (chain .entry)) ⌝ }
 {
-    let mut pairs = [0u64; PAIRS];
+    let mut pairs = [BLANK; PAIRS];
     walk_through(
         contacts,
         contact_count,
