@@ -1,8 +1,10 @@
 /*
- * The four calls from C. Reads a plan, from the file named as the first argument or else the one below, and answers asks over it;
- * each chain found is walked again. Then the plan is written back, and last it is written with one contact more counted than is
- * lent, which is refused with 9. The asks are those of the request's cases A to G, or one given as six numbers after the file:
- * source destination time size deadline excluded. It ends with 1 where two answers that must agree do not.
+ * The calls from C. Reads a plan, from the file named as the first argument or else the one below, and answers asks over it;
+ * each chain found is walked again. The first ask's route is then booked in an empty book, walked over what is left, and
+ * released, twice, of which the second is refused with 26. Then the plan is written back, and last it is written with one contact
+ * more counted than is lent, which is refused with 9. The asks are those of the request's cases A to G, or one given as six
+ * numbers after the file: source destination time size deadline excluded. It ends with 1 where two answers that must agree do
+ * not.
  *
  *     rt staticlib board
  *     gcc -std=c99 -Wall -Wextra -I include -o target/board_example examples/c/board.c target/staticlib/libboard.a
@@ -44,6 +46,9 @@ static uint8_t out[OIVARNUM_MOST_WRITTEN];
 static uint64_t contacts[OIVARNUM_TABLE_WORDS];
 static uint64_t ranges[OIVARNUM_TABLE_WORDS];
 static size_t contact_count, range_count;
+/* All zeros: an empty book. */
+static uint64_t book[OIVARNUM_BOOK_WORDS];
+static uint16_t booked[OIVARNUM_BOOKED_NUMBERS];
 
 static void fail(const char *what)
 {
@@ -54,6 +59,17 @@ static void fail(const char *what)
 static void refused(const uint64_t *answer)
 {
     printf("refused %" PRIu64 " %" PRIu64 "\n", answer[OIVARNUM_NUMBER], answer[OIVARNUM_PLACE]);
+}
+
+/* The figures of a route, how many contacts it has, and their numbers. */
+static void print_route(const char *word, const uint64_t *answer, const uint64_t *chain)
+{
+    printf("%s", word);
+    for (size_t i = OIVARNUM_DELIVERY; i <= OIVARNUM_COUNT; i++)
+        printf(" %" PRIu64, answer[i]);
+    for (size_t i = 0; i < answer[OIVARNUM_COUNT]; i++)
+        printf(" %" PRIu64, chain[i]);
+    printf("\n");
 }
 
 /* The text of the plan, and its length. */
@@ -84,17 +100,54 @@ static void answer_ask(const struct ask *ask)
         refused(best);
         return;
     }
-    printf("route");
-    for (size_t i = OIVARNUM_DELIVERY; i <= OIVARNUM_COUNT; i++)
-        printf(" %" PRIu64, best[i]);
-    for (size_t i = 0; i < best[OIVARNUM_COUNT]; i++)
-        printf(" %" PRIu64, chain[i]);
-    printf("\n");
+    print_route("route", best, chain);
     if (oivarnum_walk(contacts, OIVARNUM_TABLE_WORDS, contact_count, ranges, OIVARNUM_TABLE_WORDS, range_count, ask->source,
                       ask->destination, ask->time, ask->size, ask->deadline, ask->excluded, chain, (size_t)best[OIVARNUM_COUNT],
                       walked, OIVARNUM_ANSWER_WORDS) != 0 ||
         memcmp(walked, best, OIVARNUM_COUNT * sizeof *best) != 0)
         fail("walk and route do not agree");
+}
+
+/* Walks a chain over what is left in class 1, and prints the room. */
+static void walk_again(const struct ask *ask, const uint64_t *chain, size_t count)
+{
+    uint64_t walked[OIVARNUM_ANSWER_WORDS];
+    if (oivarnum_walk_booked(contacts, OIVARNUM_TABLE_WORDS, contact_count, ranges, OIVARNUM_TABLE_WORDS, range_count, book,
+                             OIVARNUM_BOOK_WORDS, booked, OIVARNUM_BOOKED_NUMBERS, ask->source, ask->destination, ask->time,
+                             ask->size, ask->deadline, ask->excluded, 1, chain, count, walked, OIVARNUM_ANSWER_WORDS) != 0)
+        refused(walked);
+    else
+        printf("room %" PRIu64 "\n", walked[OIVARNUM_ROOM]);
+}
+
+/* Releases what is booked in a place, and prints that or the refusal. */
+static void release(uint64_t place)
+{
+    uint64_t answer[OIVARNUM_ANSWER_WORDS];
+    if (oivarnum_release(contacts, OIVARNUM_TABLE_WORDS, contact_count, ranges, OIVARNUM_TABLE_WORDS, range_count, book,
+                         OIVARNUM_BOOK_WORDS, booked, OIVARNUM_BOOKED_NUMBERS, place, answer, OIVARNUM_ANSWER_WORDS) != 0)
+        refused(answer);
+    else
+        printf("release %" PRIu64 "\n", place);
+}
+
+/* Books the best chain in class 1 and prints it with its place, walks it again, and releases it twice. */
+static void book_ask(const struct ask *ask)
+{
+    uint64_t chain[OIVARNUM_MOST_CHAIN];
+    uint64_t answer[OIVARNUM_BOOKED_WORDS];
+    if (oivarnum_book_route(contacts, OIVARNUM_TABLE_WORDS, contact_count, ranges, OIVARNUM_TABLE_WORDS, range_count, book,
+                            OIVARNUM_BOOK_WORDS, booked, OIVARNUM_BOOKED_NUMBERS, ask->source, ask->destination, ask->time,
+                            ask->size, ask->deadline, ask->excluded, 1, chain, OIVARNUM_MOST_CHAIN, answer,
+                            OIVARNUM_BOOKED_WORDS) != 0) {
+        refused(answer);
+        return;
+    }
+    print_route("book", answer, chain);
+    printf("place %" PRIu64 "\n", answer[OIVARNUM_BOOKED_PLACE]);
+    walk_again(ask, chain, (size_t)answer[OIVARNUM_COUNT]);
+    release(answer[OIVARNUM_BOOKED_PLACE]);
+    release(answer[OIVARNUM_BOOKED_PLACE]);
 }
 
 /* Writes the plan back and compares it with the text that was read. */
@@ -138,9 +191,11 @@ int main(int argc, char **argv)
             given[i] = strtoull(argv[2 + i], NULL, 10);
         struct ask ask = {given[0], given[1], given[2], given[3], given[4], given[5]};
         answer_ask(&ask);
+        book_ask(&ask);
     } else {
         for (size_t i = 0; i < sizeof cases / sizeof *cases; i++)
             answer_ask(&cases[i]);
+        book_ask(&cases[0]);
     }
     write_back(length);
     count_too_much();

@@ -1,5 +1,6 @@
 -- The promises of the exported functions determine the number returned and all lent memory: two results that meet one are equal.
 --     board-reads-determined, board-writes-determined, board-walks-determined, board-routes-determined
+--     board-walks-booked-determined, board-routes-booked-determined, board-books-determined, board-releases-determined
 -- Assumes nothing.
 use mathlib.Core.List.{List, _++_}
 use mathlib.Core.Path.{_≡_, refl, sym, ap, _∙_}
@@ -11,8 +12,11 @@ use Rattle.text.proofs.Calls.{reads-determined}
 use Rattle.text.proofs.RoundTrip.{writes-determined}
 use Rattle.walk.proofs.Theorems.{walks-determined}
 use Rattle.search.proofs.Theorems.{routes-determined}
+use Rattle.booking.proofs.BookingLaws.{walks-booked-determined, routes-booked-determined}
+use Rattle.placing.proofs.Theorems.{books-route-determined, releases-determined}
+use Rattle.face.specs.Layout.{readWords, writtenWords, walkedWords, routedWords, placedWords, releasedWords, Answered}
+use Rattle.board.specs.Booked.{BoardWalksBooked, BoardRoutesBooked, BoardBooks, BoardReleases, no-room, called}
 use Rattle.board.specs.Faces.{BoardReads, BoardWrites, BoardWalks, BoardRoutes, no-room, called}
-use Rattle.board.specs.Layout.{readWords, writtenWords, walkedWords, routedWords, Answered}
 
 answered-determined : {ws us answer answer₁ answer₂ : List ℕ} {a b : ℕ} → ws ≡ us → Answered ws answer a answer₁ → Answered us answer b answer₂
     → (a ≡ b) × (answer₁ ≡ answer₂)
@@ -59,4 +63,50 @@ module _ {contacts : List ℕ} {m : ℕ} {ranges : List ℕ} {n : ℕ} where
   board-routes-determined (called h r x) (called g s y) =
       let same = routes-determined r s in
       let told = answered-determined (ap routedWords (same .0)) x y in
+      (told .0, same .1, told .1)
+
+-- ---- over a plan with its book
+
+module _ {contacts : List ℕ} {m : ℕ} {ranges : List ℕ} {n : ℕ} {book booked : List ℕ} where
+  pub board-walks-booked-determined : {ask : Ask} {class : ℕ} {chain answer answer₁ answer₂ : List ℕ} {a b : ℕ}
+      → BoardWalksBooked contacts m ranges n book booked ask class chain answer a answer₁
+      → BoardWalksBooked contacts m ranges n book booked ask class chain answer b answer₂ → (a ≡ b) × (answer₁ ≡ answer₂)
+  board-walks-booked-determined (no-room h) (no-room g) = (refl, refl)
+  board-walks-booked-determined (no-room h) (called g r x) = absurd (omega arith)
+  board-walks-booked-determined (called h r x) (no-room g) = absurd (omega arith)
+  board-walks-booked-determined (called h r x) (called g s y) = answered-determined (ap walkedWords (walks-booked-determined r s)) x y
+
+  pub board-routes-booked-determined : {ask : Ask} {class : ℕ} {chain answer chain₁ answer₁ chain₂ answer₂ : List ℕ} {a b : ℕ}
+      → BoardRoutesBooked contacts m ranges n book booked ask class chain answer a chain₁ answer₁
+      → BoardRoutesBooked contacts m ranges n book booked ask class chain answer b chain₂ answer₂
+      → (a ≡ b) × (chain₁ ≡ chain₂) × (answer₁ ≡ answer₂)
+  board-routes-booked-determined (no-room h) (no-room g) = (refl, refl, refl)
+  board-routes-booked-determined (no-room h) (called g r x) = absurd (omega arith)
+  board-routes-booked-determined (called h r x) (no-room g) = absurd (omega arith)
+  board-routes-booked-determined (called h r x) (called g s y) =
+      let same = routes-booked-determined r s in
+      let told = answered-determined (ap routedWords (same .0)) x y in
+      (told .0, same .1, told .1)
+
+  pub board-books-determined : {ask : Ask} {class : ℕ} {chain answer book₁ booked₁ chain₁ answer₁ book₂ booked₂ chain₂ answer₂ : List ℕ} {a b : ℕ}
+      → BoardBooks contacts m ranges n book booked ask class chain answer a book₁ booked₁ chain₁ answer₁
+      → BoardBooks contacts m ranges n book booked ask class chain answer b book₂ booked₂ chain₂ answer₂
+      → (a ≡ b) × (book₁ ≡ book₂) × (booked₁ ≡ booked₂) × (chain₁ ≡ chain₂) × (answer₁ ≡ answer₂)
+  board-books-determined (no-room h) (no-room g) = (refl, refl, refl, refl, refl)
+  board-books-determined (no-room h) (called g r x) = absurd (omega arith)
+  board-books-determined (called h r x) (no-room g) = absurd (omega arith)
+  board-books-determined (called h r x) (called g s y) =
+      let same = books-route-determined r s in
+      let told = answered-determined (ap placedWords (same .0)) x y in
+      (told .0, same .1, same .2, same .3, told .1)
+
+  pub board-releases-determined : {place : ℕ} {answer book₁ answer₁ book₂ answer₂ : List ℕ} {a b : ℕ}
+      → BoardReleases contacts m ranges n book booked place answer a book₁ answer₁
+      → BoardReleases contacts m ranges n book booked place answer b book₂ answer₂ → (a ≡ b) × (book₁ ≡ book₂) × (answer₁ ≡ answer₂)
+  board-releases-determined (no-room h) (no-room g) = (refl, refl, refl)
+  board-releases-determined (no-room h) (called g r x) = absurd (omega arith)
+  board-releases-determined (called h r x) (no-room g) = absurd (omega arith)
+  board-releases-determined (called h r x) (called g s y) =
+      let same = releases-determined r s in
+      let told = answered-determined (ap releasedWords (same .0)) x y in
       (told .0, same .1, told .1)

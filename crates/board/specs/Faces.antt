@@ -1,7 +1,6 @@
 -- The promises of the exported functions: the number returned, and all lent memory when the function returns (proofs/Theorems.antt: no two results
 -- meet one of them). Each is the promise of the library's call, with its answer laid out in words. Where the lent answer is too short, 10 is returned
 -- and nothing changes, whatever else is lent.
---     asked            the ask that six numbers are
 --     BoardReads       a text is read into two lent tables, as `Reads` says
 --     BoardWrites      the text of the plan that two tables hold is written, as `Writes` says
 --     BoardWalks       a given chain is timed, as `Walks` says
@@ -18,18 +17,7 @@ use Rattle.walk.specs.declared.figures.Walked.{Walked}
 use Rattle.walk.specs.Walk.{Walks}
 use Rattle.search.specs.declared.answer.Routed.{Routed}
 use Rattle.search.specs.Route.{Routes}
-use Rattle.board.specs.Layout.{answerWords, noRoom, readWords, writtenWords, walkedWords, routedWords, Answered}
-
--- in the order of an ask line
-abbrev pub asked : ℕ → ℕ → ℕ → ℕ → ℕ → ℕ → Ask
-asked source destination time size deadline excluded = record {
-  source = record { 0 = source };
-  destination = record { 0 = destination };
-  time = record { 0 = time };
-  size = size;
-  deadline = record { 0 = deadline };
-  excluded = excluded;
-}
+use Rattle.face.specs.Layout.{answerWords, noRoom, readWords, writtenWords, walkedWords, routedWords, Answered}
 
 pub data BoardReads (text contacts ranges answer : List ℕ) : ℕ → List ℕ → List ℕ → List ℕ → Type 0 where
   no-room : length answer < answerWords → BoardReads text contacts ranges answer noRoom contacts ranges answer

@@ -1,2 +1,2 @@
+pub mod Booked
 pub mod Faces
-pub mod Layout

@@ -1,7 +1,7 @@
 // `read` as a C function.
-use crate::answer::ANSWER_WORDS;
-use crate::answer::no_room;
-use crate::answer::put_read;
+use face::ANSWER_WORDS;
+use face::no_room;
+use face::put_read;
 use parse::read;
 ghost use Rattle.board.specs.Faces.{BoardReads};
 

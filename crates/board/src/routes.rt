@@ -1,10 +1,11 @@
 // `route` as a C function.
-use crate::answer::ANSWER_WORDS;
-use crate::answer::no_room;
-use crate::answer::put_routed;
-use crate::asking::ask_of;
+use face::ANSWER_WORDS;
+use face::ask_of;
+use face::no_room;
+use face::put_routed;
 use search::route;
-ghost use Rattle.board.specs.Faces.{asked, BoardRoutes};
+ghost use Rattle.face.specs.Asked.{asked};
+ghost use Rattle.board.specs.Faces.{BoardRoutes};
 
 // Finds the best chain for the ask that the six numbers are.
 #[no_mangle]

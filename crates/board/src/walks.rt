@@ -1,10 +1,11 @@
 // `walk` as a C function.
-use crate::answer::ANSWER_WORDS;
-use crate::answer::no_room;
-use crate::answer::put_walked;
-use crate::asking::ask_of;
+use face::ANSWER_WORDS;
+use face::ask_of;
+use face::no_room;
+use face::put_walked;
 use walk::walk;
-ghost use Rattle.board.specs.Faces.{asked, BoardWalks};
+ghost use Rattle.face.specs.Asked.{asked};
+ghost use Rattle.board.specs.Faces.{BoardWalks};
 
 // Times the chain given for the ask that the six numbers are.
 #[no_mangle]

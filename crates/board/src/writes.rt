@@ -1,7 +1,7 @@
 // `write` as a C function.
-use crate::answer::ANSWER_WORDS;
-use crate::answer::no_room;
-use crate::answer::put_written;
+use face::ANSWER_WORDS;
+use face::no_room;
+use face::put_written;
 use print::write;
 ghost use Rattle.board.specs.Faces.{BoardWrites};
 

@@ -1,13 +1,18 @@
 //! The proved contact-plan router for Rust: [`read`], [`write`], [`walk`] and
-//! [`route`] as safe functions over lent slices.
+//! [`route`] as safe functions over lent slices, and with a book of bookings
+//! [`walk_booked`], [`route_booked`], [`book_route`] and [`release`].
 //!
 //! A table is flat words, five a row: start, end, from, to and rate of a
 //! contact; start, end, a, b and light time of a range. [`ROWS`] rows and
 //! [`CHAIN`] places are always enough, and [`TEXT`] bytes hold any plan's text.
 
+mod booked;
 pub mod raw;
 
-use raw::ANSWER_WORDS;
+pub use booked::{book_route, release, route_booked, walk_booked};
+pub use booked::{Book, Booked, BOOKED_NUMBERS, BOOK_WORDS, PLACES};
+
+use raw::BOOKED_WORDS;
 
 /// The words of a row.
 pub const WORDS: usize = 5;
@@ -54,11 +59,12 @@ pub struct Figures {
     pub room: u64,
 }
 
-type Answer = [u64; ANSWER_WORDS];
+/// Words enough for every function.
+type Answer = [u64; BOOKED_WORDS];
 
 /// Runs a call on an answer; the answer if the call did not refuse.
 fn answered(call: impl FnOnce(&mut Answer) -> u64) -> Result<Answer, Refusal> {
-    let mut answer = [0; ANSWER_WORDS];
+    let mut answer = [0; BOOKED_WORDS];
     match call(&mut answer) {
         0 => Ok(answer),
         number => Err(Refusal {

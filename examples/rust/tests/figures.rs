@@ -1,19 +1,9 @@
 //! Cases A to G of the request through the safe functions.
 
-use oivarnum::{read, route, walk, write, Ask, Figures, Plan, Refusal, CHAIN, ROWS, TEXT, WORDS};
+mod common;
 
-const TEXT_A_TO_G: &[u8] = b"plan\t1
-contact\t0\t10000\t1\t2\t1000
-contact\t4000\t9000\t2\t3\t500
-contact\t8000\t20000\t1\t3\t100
-contact\t12000\t30000\t2\t3\t1000
-contact\t2000\t6000\t1\t4\t2000
-contact\t3000\t15000\t4\t3\t1000
-range\t0\t30000\t1\t2\t10
-range\t0\t30000\t2\t3\t20
-range\t0\t30000\t1\t3\t1300
-range\t0\t30000\t1\t4\t5
-";
+use common::{ask, TEXT_A_TO_G};
+use oivarnum::{read, route, walk, write, Figures, Plan, Refusal, CHAIN, ROWS, TEXT, WORDS};
 
 /// An ask's six numbers, and the figures and the chain, or the refusal.
 type Case = ([u64; 6], Result<([u64; 4], &'static [u64]), u64>);
@@ -39,17 +29,6 @@ const CASES: [Case; 7] = [
     ([3, 1, 0, 1000, 30000, 0], Err(13)),
     ([1, 1, 0, 1000, 30000, 0], Err(12)),
 ];
-
-fn ask([source, destination, time, size, deadline, excluded]: [u64; 6]) -> Ask {
-    Ask {
-        source,
-        destination,
-        time,
-        size,
-        deadline,
-        excluded,
-    }
-}
 
 #[test]
 fn the_cases_of_the_request() {

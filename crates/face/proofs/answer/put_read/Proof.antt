@@ -1,12 +1,12 @@
--- `board::answer::put_read` meets its contract.
+-- `face::answer::put_read` meets its contract.
 -- Assumes nothing.
 use mathlib.Core.Path.{sym, ap}
 use native.Mathlib.Omega.{arith}
 use borrow.Author.Needs.{needs}
-use Rattle.board.specs.Layout.{answerWords, readWords}
-use Rattle.board.proofs.AnswerCode.{answered-as}
-use Rattle.board.proofs.answer.put_read.Statement.{statement}
-use Rattle.board.proofs.answer.put_read.Tie as tie
+use Rattle.face.specs.Layout.{answerWords, readWords}
+use Rattle.face.proofs.AnswerCode.{answered-as}
+use Rattle.face.proofs.answer.put_read.Statement.{statement}
+use Rattle.face.proofs.answer.put_read.Tie as tie
 
 enum-known-read : tie.Need-enum-known-read
 enum-known-read c = search needs

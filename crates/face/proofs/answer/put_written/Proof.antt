@@ -1,12 +1,12 @@
--- `board::answer::put_written` meets its contract.
+-- `face::answer::put_written` meets its contract.
 -- Assumes nothing.
 use mathlib.Core.Path.{sym, ap}
 use native.Mathlib.Omega.{arith}
 use borrow.Author.Needs.{needs}
-use Rattle.board.specs.Layout.{answerWords, writtenWords}
-use Rattle.board.proofs.AnswerCode.{answered-as}
-use Rattle.board.proofs.answer.put_written.Statement.{statement}
-use Rattle.board.proofs.answer.put_written.Tie as tie
+use Rattle.face.specs.Layout.{answerWords, writtenWords}
+use Rattle.face.proofs.AnswerCode.{answered-as}
+use Rattle.face.proofs.answer.put_written.Statement.{statement}
+use Rattle.face.proofs.answer.put_written.Tie as tie
 
 enum-known-written : tie.Need-enum-known-written
 enum-known-written c = search needs

@@ -1,14 +1,14 @@
--- `board::answer::put_refusal` meets its contract.
+-- `face::answer::put_refusal` meets its contract.
 -- Assumes nothing.
 use mathlib.Core.List.{[], _∷_}
 use mathlib.Core.Path.{ap₂}
 use Prim.Native.Nat.{ℕ}
 use native.Mathlib.Omega.{arith}
 use borrow.Author.Needs.{needs}
-use Rattle.board.specs.Layout.{answerWords}
-use Rattle.board.proofs.AnswerCode.{answered-as}
-use Rattle.board.proofs.answer.put_refusal.Statement.{statement}
-use Rattle.board.proofs.answer.put_refusal.Tie as tie
+use Rattle.face.specs.Layout.{answerWords}
+use Rattle.face.proofs.AnswerCode.{answered-as}
+use Rattle.face.proofs.answer.put_refusal.Statement.{statement}
+use Rattle.face.proofs.answer.put_refusal.Tie as tie
 
 number-requires : tie.Need-number-requires
 number-requires c κs = search needs

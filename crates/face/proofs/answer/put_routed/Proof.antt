@@ -1,12 +1,12 @@
--- `board::answer::put_routed` meets its contract.
+-- `face::answer::put_routed` meets its contract.
 -- Assumes nothing.
 use mathlib.Core.Path.{sym, ap}
 use native.Mathlib.Omega.{arith}
 use borrow.Author.Needs.{needs}
-use Rattle.board.specs.Layout.{answerWords, routedWords}
-use Rattle.board.proofs.AnswerCode.{answered-as}
-use Rattle.board.proofs.answer.put_routed.Statement.{statement}
-use Rattle.board.proofs.answer.put_routed.Tie as tie
+use Rattle.face.specs.Layout.{answerWords, routedWords}
+use Rattle.face.proofs.AnswerCode.{answered-as}
+use Rattle.face.proofs.answer.put_routed.Statement.{statement}
+use Rattle.face.proofs.answer.put_routed.Tie as tie
 
 enum-known-routed : tie.Need-enum-known-routed
 enum-known-routed c = search needs

@@ -1,12 +1,12 @@
--- `board::answer::put_walked` meets its contract.
+-- `face::answer::put_walked` meets its contract.
 -- Assumes nothing.
 use mathlib.Core.Path.{sym, ap}
 use native.Mathlib.Omega.{arith}
 use borrow.Author.Needs.{needs}
-use Rattle.board.specs.Layout.{answerWords, walkedWords}
-use Rattle.board.proofs.AnswerCode.{answered-as}
-use Rattle.board.proofs.answer.put_walked.Statement.{statement}
-use Rattle.board.proofs.answer.put_walked.Tie as tie
+use Rattle.face.specs.Layout.{answerWords, walkedWords}
+use Rattle.face.proofs.AnswerCode.{answered-as}
+use Rattle.face.proofs.answer.put_walked.Statement.{statement}
+use Rattle.face.proofs.answer.put_walked.Tie as tie
 
 enum-known-walked : tie.Need-enum-known-walked
 enum-known-walked c = search needs

@@ -3,7 +3,7 @@ use units::Ask;
 use units::Millis;
 use units::NodeNo;
 ghost use mathlib.Core.Path.{_≡_};
-ghost use Rattle.board.specs.Faces.{asked};
+ghost use Rattle.face.specs.Asked.{asked};
 
 // The ask that the six numbers are, in the order of an ask line.
 pub fn ask_of(

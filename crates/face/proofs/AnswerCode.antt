@@ -8,7 +8,7 @@ use Prim.Native.Nat.{ℕ}
 use native.Mathlib.Omega.{arith}
 use lib.ListN.{length, getD, take, drop}
 use lib.Seq.{take-all}
-use Rattle.board.specs.Layout.{Answered}
+use Rattle.face.specs.Layout.{Answered}
 
 pub answered-whole : (ws answer answer′ : List ℕ) → answer′ ≡ take (length ws) ws ++ drop (length ws) answer → Answered ws answer (getD ws 0 0) answer′
 answered-whole ws answer answer′ e = record {

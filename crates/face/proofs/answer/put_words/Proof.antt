@@ -1,9 +1,9 @@
--- `board::answer::put_words` meets its contract.
+-- `face::answer::put_words` meets its contract.
 -- Assumes nothing.
 use borrow.Author.Needs.{needs}
-use Rattle.board.proofs.AnswerCode.{answered-whole}
-use Rattle.board.proofs.answer.put_words.Statement.{statement}
-use Rattle.board.proofs.answer.put_words.Tie as tie
+use Rattle.face.proofs.AnswerCode.{answered-whole}
+use Rattle.face.proofs.answer.put_words.Statement.{statement}
+use Rattle.face.proofs.answer.put_words.Tie as tie
 
 copy-words-requires : tie.Need-copy-words-requires
 copy-words-requires c κs = search needs

@@ -1,5 +1,7 @@
 // The words of an answer into the lent answer. Each function returns the first of them: the refusal's
 // number, or 0.
+use placing::Placed;
+use placing::Released;
 use search::Routed;
 use taking::copy_words;
 use text::PlanRead;
@@ -11,10 +13,13 @@ use walk::Walked;
 ghost use mathlib.Core.Path.{_≡_};
 ghost use Prim.Native.Nat.{_≤_};
 ghost use lib.ListN.{length};
-ghost use Rattle.board.specs.Layout.{answerWords, noRoom, refusalWords, readWords, writtenWords, walkedWords, routedWords, Answered};
+ghost use Rattle.face.specs.Layout.{answerWords, bookedWords, noRoom, refusalWords, readWords, writtenWords, walkedWords, routedWords, placedWords, releasedWords, Answered};
 
 // The words that every lent answer must have.
 pub const ANSWER_WORDS: usize = 7;
+
+// Those that the lent answer of a booking must have: the place comes behind the count.
+pub const BOOKED_WORDS: usize = 8;
 
 // What is returned where one has fewer: the number of refusal 10.
 pub fn no_room() -> u64
@@ -104,5 +109,37 @@ pub fn put_routed(routed: Routed, answer: &mut [u64]) -> u64
             put_words(&words, answer)
         }
         Routed::Refused(why) => put_refusal(why, answer),
+    }
+}
+
+// The figures of the chain that was booked, how many contacts it has, and the booking's place.
+pub fn put_placed(placed: Placed, answer: &mut [u64]) -> u64
+    requires { ⌜ bookedWords ≤ length (now answer) ⌝ }
+    ensures { λ r. ⌜ Answered (placedWords placed) (now (answer .entry)) r (now (answer .exit)) ⌝ }
+{
+    match placed {
+        Placed::At(f, count, place) => {
+            let delivery = f.delivery.0;
+            let opens = f.opens.0;
+            let last_call = f.last_call.0;
+            let n = count as u64;
+            let words = [0, 0, delivery, opens, last_call, f.room, n, place];
+            put_words(&words, answer)
+        }
+        Placed::Refused(why) => put_refusal(why, answer),
+    }
+}
+
+// Two noughts where the place was freed.
+pub fn put_released(released: Released, answer: &mut [u64]) -> u64
+    requires { ⌜ answerWords ≤ length (now answer) ⌝ }
+    ensures { λ r. ⌜ Answered (releasedWords released) (now (answer .entry)) r (now (answer .exit)) ⌝ }
+{
+    match released {
+        Released::Freed => {
+            let words = [0, 0];
+            put_words(&words, answer)
+        }
+        Released::Refused(why) => put_refusal(why, answer),
     }
 }

@@ -1,0 +1,47 @@
+// `walk_booked` as a C function.
+use booking::walk_booked;
+use face::ANSWER_WORDS;
+use face::ask_of;
+use face::no_room;
+use face::put_walked;
+ghost use Rattle.face.specs.Asked.{asked};
+ghost use Rattle.board.specs.Booked.{BoardWalksBooked};
+
+// Times the chain given for the ask that the six numbers are, of that class, over the plan with its book.
+#[no_mangle]
+pub extern "C" fn oivarnum_walk_booked(
+    contacts: &[u64],
+    contact_count: usize,
+    ranges: &[u64],
+    range_count: usize,
+    book: &[u64],
+    booked: &[u16],
+    source: u64,
+    destination: u64,
+    time: u64,
+    size: u64,
+    deadline: u64,
+    excluded: u64,
+    class: u64,
+    chain: &[u64],
+    answer: &mut [u64],
+) -> u64
+    ensures { λ r. ⌜ BoardWalksBooked (now (contacts .entry)) «contact_count» (now (ranges .entry)) «range_count» (now (book .entry)) (now (booked .entry)) (asked source destination time size deadline excluded) class (now (chain .entry)) (now (answer .entry)) r (now (answer .exit)) ⌝ }
+{
+    if answer.len() < ANSWER_WORDS {
+        return no_room();
+    }
+    let ask = ask_of(source, destination, time, size, deadline, excluded);
+    let w = walk_booked(
+        contacts,
+        contact_count,
+        ranges,
+        range_count,
+        book,
+        booked,
+        ask,
+        class,
+        chain,
+    );
+    put_walked(w, answer)
+}
