@@ -2,12 +2,13 @@
 //!
 //! Nothing here is indexed or worked back: a chain is timed contact by contact,
 //! and last call and room are the greatest number for which the same chain is
-//! still allowed and in time. It shares no code with `timing`.
+//! still allowed and in time. Why a chain is not allowed stands in `faults`. It
+//! shares no code with `timing`.
 
 use crate::ask::GoodAsk;
 use crate::plain;
 use crate::plan::{Plan, Row};
-use crate::refusal::{Refusal, CHAIN_NOT_ALLOWED, NOT_IN_TIME};
+use crate::refusal::{Refusal, NOT_IN_TIME};
 use crate::timing::Figures;
 use crate::units::LARGEST_SIZE;
 
@@ -18,11 +19,12 @@ pub struct Times {
     pub delivery: u64,
 }
 
-/// A plan's rows, and the definitions of document 01 about them. With a book
-/// also what is left of each contact, which a file must not exceed.
+/// A plan's contacts with their light times, and the definitions of document 01
+/// about them. With a book also what is left of each contact, which a file must
+/// not exceed.
 pub struct Definitions {
     pub contacts: Vec<Row>,
-    pub ranges: Vec<Row>,
+    lights: Vec<Option<u64>>,
     left: Option<Vec<i128>>,
 }
 
@@ -30,9 +32,12 @@ impl Definitions {
     /// The definitions of document 01 by itself, in which nothing is said of
     /// volumes.
     pub fn of(plan: &Plan) -> Self {
+        let contacts: Vec<Row> = plan.contacts().iter().map(|c| c.row()).collect();
+        let ranges: Vec<Row> = plan.ranges().iter().map(|r| r.row()).collect();
+        let lights = contacts.iter().map(|c| plain::light(c, &ranges));
         Self {
-            contacts: plan.contacts().iter().map(|c| c.row()).collect(),
-            ranges: plan.ranges().iter().map(|r| r.row()).collect(),
+            lights: lights.collect(),
+            contacts,
             left: None,
         }
     }
@@ -53,38 +58,33 @@ impl Definitions {
         Self::with_left(plan, left.collect())
     }
 
-    /// The light time of a contact, from whichever range covers it.
-    pub fn light(&self, &[start, end, from, to, _]: &Row) -> Option<u64> {
-        let covers = |r: &&Row| {
-            let names_both = (r[2] == from && r[3] == to) || (r[2] == to && r[3] == from);
-            names_both && r[0] <= start && r[1] >= end
-        };
-        self.ranges.iter().find(covers).map(|r| r[4])
-    }
-
     /// The row of the contact with a number.
     pub fn contact(&self, number: u64) -> Option<&Row> {
         let row = number.checked_sub(1)?;
         self.contacts.get(usize::try_from(row).ok()?)
     }
 
+    /// The light time of the contact with a number, if it is ranged.
+    pub fn light(&self, number: u64) -> Option<u64> {
+        self.lights[number as usize - 1]
+    }
+
+    /// Whether a file fits on the contact with a number: in what is left of its
+    /// volume, and in time.
+    pub fn fits(&self, number: u64, ready: u64, size: u64) -> bool {
+        let contact = &self.contacts[number as usize - 1];
+        let left = self.left.as_ref().map(|left| left[number as usize - 1]);
+        let has_volume = left.is_none_or(|left| i128::from(consumption(size)) <= left);
+        has_volume && sent(contact, ready, size) <= contact[1]
+    }
+
     /// Start and arrival over one contact, if it is ranged and the file fits.
     pub fn hop(&self, number: u64, ready: u64, size: u64) -> Option<(u64, u64)> {
         let contact = self.contact(number)?;
-        let consumption = consumption(size);
-        if let Some(left) = &self.left {
-            if left[number as usize - 1] < i128::from(consumption) {
-                return None;
-            }
-        }
-        let start = if ready > contact[0] {
-            ready
-        } else {
-            contact[0]
-        };
-        let sent = start + up(consumption * 1000, contact[4]);
-        let light = self.light(contact)?;
-        (sent <= contact[1]).then_some((start, sent + light))
+        let light = self.light(number)?;
+        let arrival = sent(contact, ready, size) + light;
+        self.fits(number, ready, size)
+            .then_some((start(contact, ready), arrival))
     }
 
     /// The times of a chain, if it is allowed for the ask with this time and
@@ -114,7 +114,7 @@ impl Definitions {
         })
     }
 
-    /// The figures of a chain, or refusal 16 or 14.
+    /// The figures of a chain, or refusal 18 to 23, or 14.
     pub fn figures(&self, ask: &GoodAsk, chain: &[u64]) -> Result<Figures, Refusal> {
         let in_time = |time, size| {
             let times = self.allowed(ask, time, size, chain);
@@ -122,7 +122,7 @@ impl Definitions {
         };
         let times = self
             .allowed(ask, ask.time.0, ask.size, chain)
-            .ok_or(Refusal::bare(CHAIN_NOT_ALLOWED))?;
+            .ok_or_else(|| self.why_not(ask, chain))?;
         if times.delivery >= ask.deadline.0 {
             return Err(Refusal::bare(NOT_IN_TIME));
         }
@@ -157,6 +157,20 @@ impl Definitions {
 pub fn excluded(ask: &GoodAsk, contact: &Row) -> bool {
     let bit = 1u64 << (contact[3] - 1);
     contact[2] == ask.source.0 && ask.excluded & bit != 0
+}
+
+/// When a file that is ready starts on a contact.
+fn start(contact: &Row, ready: u64) -> u64 {
+    if ready > contact[0] {
+        ready
+    } else {
+        contact[0]
+    }
+}
+
+/// When a file that is ready is sent over a contact.
+fn sent(contact: &Row, ready: u64, size: u64) -> u64 {
+    start(contact, ready) + up(consumption(size) * 1000, contact[4])
 }
 
 /// A file's size and three hundredths of it, rounded up.

@@ -1,7 +1,7 @@
 //! Lent tables, books and asks judged as plainly as they can be, for checks
-//! only: each row is compared with each, and what is left of a contact is
-//! counted straight from the words of the book. It shares no code with `plan`,
-//! `book` and `ask`.
+//! only: each row is compared with each, light times are taken from all rows,
+//! and what is left of a contact is counted straight from the words of the
+//! book. It shares no code with `plan`, `book` and `ask`.
 
 use crate::ask::Ask;
 use crate::plan::Row;
@@ -48,7 +48,36 @@ pub fn range_is_good(&[start, end, a, b, light]: &Row) -> bool {
 
 /// Whether two rows of one table name the same nodes and overlap.
 pub fn overlap(one: &Row, other: &Row) -> bool {
-    one[2..4] == other[2..4] && one[0] < other[1] && other[0] < one[1]
+    one[2..4] == other[2..4] && share_time(one, other)
+}
+
+/// The light time of a contact: the largest among the ranges of its two nodes
+/// that share time with it; none if a millisecond of it is in none of them.
+pub fn light(contact: &Row, ranges: &[Row]) -> Option<u64> {
+    let of_pair = ranges_of(contact, ranges);
+    let is_covered = |moment: u64| of_pair.iter().any(|r| r[0] <= moment && moment < r[1]);
+    // The first millisecond that is in no range would be the contact's first,
+    // or the first behind some range.
+    let behind = of_pair.iter().map(|r| r[1]);
+    let mut moments = behind
+        .filter(|&moment| contact[0] < moment && moment < contact[1])
+        .chain([contact[0]]);
+    if !moments.all(is_covered) {
+        return None;
+    }
+    let sharing = of_pair.iter().filter(|r| share_time(r, contact));
+    sharing.map(|r| r[4]).max()
+}
+
+/// The ranges of a contact's two nodes, in the order of the table.
+pub fn ranges_of<'a>(contact: &Row, ranges: &'a [Row]) -> Vec<&'a Row> {
+    let of_pair = |r: &&Row| r[2..4] == contact[2..4] || r[2..4] == [contact[3], contact[2]];
+    ranges.iter().filter(of_pair).collect()
+}
+
+/// Whether the start of each is below the end of the other.
+pub fn share_time(one: &Row, other: &Row) -> bool {
+    one[0] < other[1] && other[0] < one[1]
 }
 
 /// The refusal of an ask for its values, or for its two nodes being one.

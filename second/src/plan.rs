@@ -169,11 +169,20 @@ impl Plan {
         Ok(())
     }
 
-    /// The light time of a contact; none if no single range covers it.
+    /// The light time of a contact: the largest of the ranges that cover it,
+    /// taken from its start on, each where the one before ends; none where one
+    /// is missing. As no two ranges of a pair overlap, no other shares time
+    /// with the contact.
     pub fn light(&self, contact: &Contact) -> Option<Millis> {
         let pair = (contact.from.min(contact.to), contact.from.max(contact.to));
-        let span = self.range_spans.latest_begun(pair, contact.start)?;
-        (contact.end <= span.end).then(|| self.ranges[span.row].light)
+        let mut largest = Millis(0);
+        let mut covered_to = contact.start;
+        while covered_to < contact.end {
+            let span = self.range_spans.at(pair, covered_to)?;
+            largest = largest.max(self.ranges[span.row].light);
+            covered_to = span.end;
+        }
+        Some(largest)
     }
 }
 
@@ -218,6 +227,12 @@ impl Spans {
                 Ok(())
             }
         }
+    }
+
+    /// The span of the pair that holds a millisecond.
+    fn at(&self, pair: (NodeNo, NodeNo), moment: Millis) -> Option<Span> {
+        self.latest_begun(pair, moment)
+            .filter(|span| moment < span.end)
     }
 
     /// The last span of the pair that starts at a time or before it.

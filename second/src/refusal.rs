@@ -34,8 +34,16 @@ pub const SOURCE_IS_DESTINATION: u64 = 12;
 pub const NO_ALLOWED_CHAIN: u64 = 13;
 pub const NOT_IN_TIME: u64 = 14;
 pub const SHORT_CHAIN: u64 = 15;
-pub const CHAIN_NOT_ALLOWED: u64 = 16;
 pub const ASK_SHAPE: u64 = 17;
+/// This and the next four are the causes for which a contact of a walked chain
+/// is at fault. Their place is its position, counted from 1.
+pub const NO_SUCH_CONTACT: u64 = 18;
+pub const DOES_NOT_JOIN: u64 = 19;
+pub const EXCLUDED_NEIGHBOUR: u64 = 20;
+pub const UNRANGED: u64 = 21;
+pub const DOES_NOT_FIT: u64 = 22;
+/// Also where the chain is empty; the place is the chain's length.
+pub const ENDS_ELSEWHERE: u64 = 23;
 pub const NO_SUCH_CLASS: u64 = 24;
 pub const BOOK_FULL: u64 = 25;
 pub const NOT_OPEN: u64 = 26;

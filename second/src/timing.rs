@@ -3,8 +3,11 @@
 use crate::ask::GoodAsk;
 use crate::book::Book;
 use crate::plan::{Contact, Plan};
-use crate::refusal::{Refusal, CHAIN_NOT_ALLOWED, NOT_IN_TIME};
-use crate::units::{Class, ContactNo, Millis, LARGEST_SIZE};
+use crate::refusal::{
+    Refusal, DOES_NOT_FIT, DOES_NOT_JOIN, ENDS_ELSEWHERE, EXCLUDED_NEIGHBOUR, NOT_IN_TIME,
+    NO_SUCH_CONTACT, UNRANGED,
+};
+use crate::units::{Class, ContactNo, Millis, NodeNo, LARGEST_SIZE};
 
 /// What is said of an allowed chain in time.
 #[derive(Clone, Copy, Debug, PartialEq, Eq)]
@@ -20,8 +23,8 @@ pub fn consumption(size: u64) -> u64 {
     size + (3 * size).div_ceil(100)
 }
 
-/// A contact with the light time of the range that covers it, and with what
-/// is left of its volume in the class of the ask.
+/// A ranged contact with its light time, and with what is left of its volume
+/// in the class of the ask.
 #[derive(Clone, Copy)]
 pub struct Link {
     pub contact: Contact,
@@ -68,8 +71,11 @@ impl Link {
     }
 }
 
-/// The links of a plan by contact number; an unranged contact has none.
-pub struct Links(Vec<Option<Link>>);
+/// The contacts of a plan by number, and the links of those that are ranged.
+pub struct Links {
+    contacts: Vec<Contact>,
+    links: Vec<Option<Link>>,
+}
 
 impl Links {
     /// The links of a plan on which nothing is booked.
@@ -88,57 +94,90 @@ impl Links {
             })
         };
         let left = book.left(plan, class);
-        Self(plan.contacts().iter().zip(left).map(link).collect())
+        Self {
+            contacts: plan.contacts().to_vec(),
+            links: plan.contacts().iter().zip(left).map(link).collect(),
+        }
     }
 
+    /// The contact of a number, ranged or not.
+    fn contact(&self, number: ContactNo) -> Option<&Contact> {
+        self.contacts.get(number.row()?)
+    }
+
+    /// The link of a number; an unranged contact has none.
     pub fn get(&self, number: ContactNo) -> Option<&Link> {
-        self.0.get(number.row()?)?.as_ref()
+        self.links.get(number.row()?)?.as_ref()
     }
 
     /// Every link with its contact's number, lowest first.
     pub fn iter(&self) -> impl Iterator<Item = (ContactNo, &Link)> {
-        let rows = self.0.iter().enumerate();
+        let rows = self.links.iter().enumerate();
         rows.filter_map(|(row, link)| Some((ContactNo::of_row(row), link.as_ref()?)))
     }
 }
 
-/// The figures of a chain, or refusal 16 or 14.
+/// The figures of a chain, or refusal 18 to 23, or 14.
 pub fn figures(
     links: &Links,
     ask: &GoodAsk,
     chain: impl Iterator<Item = ContactNo>,
 ) -> Result<Figures, Refusal> {
-    let chain = joined(links, ask, chain).ok_or(Refusal::bare(CHAIN_NOT_ALLOWED))?;
-    let passage = pass(&chain, ask.time, ask.size).ok_or(Refusal::bare(CHAIN_NOT_ALLOWED))?;
-    let last_call = last_call(&chain, ask)
-        .filter(|_| passage.delivery < ask.deadline)
-        .ok_or(Refusal::bare(NOT_IN_TIME))?;
+    let chain = allowed(links, ask, chain)?;
+    let late = Refusal::bare(NOT_IN_TIME);
+    let passage = pass(&chain, ask.time, ask.size)
+        .filter(|passage| passage.delivery < ask.deadline)
+        .ok_or(late)?;
     Ok(Figures {
         delivery: passage.delivery.0,
         opens: passage.opens.0,
-        last_call: last_call.0,
+        last_call: last_call(&chain, ask).ok_or(late)?.0,
         room: room(&chain, ask),
     })
 }
 
-/// The chain's links, if it leads from source to destination over ranged
-/// contacts none of which is excluded.
-fn joined<'a>(
+/// The links of an allowed chain, or the refusal of its first contact at
+/// fault. Each contact is judged where and when the good ones before it have
+/// the file ready.
+fn allowed<'a>(
     links: &'a Links,
     ask: &GoodAsk,
     chain: impl Iterator<Item = ContactNo>,
-) -> Option<Vec<&'a Link>> {
-    let mut at = ask.source;
-    let mut joined = Vec::new();
-    for number in chain {
-        let link = links.get(number)?;
-        if link.contact.from != at || ask.excludes(&link.contact) {
-            return None;
-        }
-        at = link.contact.to;
-        joined.push(link);
+) -> Result<Vec<&'a Link>, Refusal> {
+    let consumption = consumption(ask.size);
+    let (mut node, mut ready) = (ask.source, ask.time);
+    let mut allowed = Vec::new();
+    for (position, number) in (1..).zip(chain) {
+        let at_fault = |cause| Refusal::new(cause, position);
+        let link = reached(links, ask, node, number).map_err(at_fault)?;
+        let hop = link.hop(ready, consumption);
+        ready = hop.ok_or(at_fault(DOES_NOT_FIT))?.ready;
+        node = link.contact.to;
+        allowed.push(link);
     }
-    (at == ask.destination).then_some(joined)
+    // The empty chain ends at the source, which is not the destination.
+    if node != ask.destination {
+        return Err(Refusal::new(ENDS_ELSEWHERE, allowed.len() as u64));
+    }
+    Ok(allowed)
+}
+
+/// The link of a contact that a chain reaches at a node, or the lowest cause,
+/// 18 to 21, that keeps it out of an allowed chain.
+fn reached<'a>(
+    links: &'a Links,
+    ask: &GoodAsk,
+    node: NodeNo,
+    number: ContactNo,
+) -> Result<&'a Link, u64> {
+    let contact = links.contact(number).ok_or(NO_SUCH_CONTACT)?;
+    if contact.from != node {
+        return Err(DOES_NOT_JOIN);
+    }
+    if ask.excludes(contact) {
+        return Err(EXCLUDED_NEIGHBOUR);
+    }
+    links.get(number).ok_or(UNRANGED)
 }
 
 struct Passage {

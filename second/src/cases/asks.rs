@@ -5,8 +5,9 @@ use crate::cases::draft::Draft;
 use crate::cases::lines::{too_long, Pieces, FORMS};
 use crate::plan::Row;
 use crate::random::Random;
-use crate::refusal::{ASK_SHAPE, ASK_VALUE, SOURCE_IS_DESTINATION};
-use crate::router::Best;
+use crate::refusal::{Refusal, ASK_SHAPE, ASK_VALUE, NO_ALLOWED_CHAIN, SOURCE_IS_DESTINATION};
+use crate::route::Network;
+use crate::router::{Best, Router};
 use crate::units::{LARGEST_SIZE, LATEST_TIME, NODES};
 
 /// The ask's line.
@@ -44,6 +45,16 @@ pub fn ask(random: &mut Random, draft: &Draft) -> Ask {
         deadline: some_deadline(random, draft),
         excluded: some_exclusion(random, draft, source),
     }
+}
+
+/// The first of so many asks for which a chain is allowed, or the last.
+pub fn likely(network: &Network, tries: usize, mut some_ask: impl FnMut() -> Ask) -> Ask {
+    let is_allowed = |ask: &Ask| {
+        let answer = ask.check().and_then(|good| network.best(&good));
+        answer.err() != Some(Refusal::bare(NO_ALLOWED_CHAIN))
+    };
+    let tried = (1..tries).map(|_| some_ask()).find(is_allowed);
+    tried.unwrap_or_else(some_ask)
 }
 
 fn some_contact(random: &mut Random, draft: &Draft) -> Option<Row> {

@@ -69,8 +69,17 @@ pub fn folder(seed: u64, number: u64, ask_count: usize) -> Folder {
     }
 }
 
-const SET_PIECES: [fn(&mut Random, usize) -> Folder; 11] = [
+const SET_PIECES: [fn(&mut Random, usize) -> Folder; 12] = [
     |random, count| figures("A to G", plans::figures_plan(), FIGURE_ASKS, random, count),
+    |random, count| {
+        figures(
+            "A to G, cut",
+            plans::cut_figures_plan(),
+            FIGURE_ASKS,
+            random,
+            count,
+        )
+    },
     |random, count| figures("H", plans::case_h(), TIE_ASK, random, count),
     |random, count| figures("I", plans::case_i(), TIE_ASK, random, count),
     |random, count| figures("empty plan", Draft::default(), b"", random, count),

@@ -1,7 +1,9 @@
 //! Families of large plans.
 
 use crate::cases::draft::{Draft, Kind};
-use crate::cases::ranging::{add_range, range_all_somehow, range_all_wide, some_nodes, two_of};
+use crate::cases::ranging::{
+    add_range, range_all_somehow, range_all_wide, range_by_clock, some_nodes, two_of,
+};
 use crate::random::Random;
 use crate::units::{HIGHEST_RATE, LATEST_TIME, LONGEST_LIGHT, NODES, ROWS};
 
@@ -163,7 +165,7 @@ pub fn stages(random: &mut Random) -> Draft {
 }
 
 /// A day of passes of orbiters over ground stations and landers, with light
-/// times that are known by the hour.
+/// times that change by the hour.
 pub fn day(random: &mut Random) -> Draft {
     const HOUR: u64 = 3_600_000;
     let nodes = some_nodes(random, 12);
@@ -185,10 +187,30 @@ pub fn day(random: &mut Random) -> Draft {
     draft.renumber(random);
     let hours = random.pick(&[1, 3, 24]);
     for contact in draft.contacts.clone() {
-        let start = contact[0] / (hours * HOUR) * (hours * HOUR);
-        let light = random.between(2, 1350);
-        add_range(&mut draft, &contact, start, start + hours * HOUR, light);
+        range_by_clock(&mut draft, random, &contact, hours * HOUR, 1350);
     }
+    draft
+}
+
+/// Long passes there and back between a few nodes, under ranges that are cut
+/// every ten minutes as long as there is room for them.
+pub fn ten_minutes(random: &mut Random) -> Draft {
+    const MINUTE: u64 = 60_000;
+    let nodes = some_nodes(random, 6);
+    let mut draft = Draft::default();
+    for _ in 0..random.between(20, 60) {
+        let (from, to) = two_of(random, &nodes);
+        let start = random.below(24 * 60) * MINUTE;
+        let end = start + random.between(5, 200) * MINUTE;
+        let rate = random.pick(&[1000, 4000, 64_000]);
+        draft.add(Kind::Contact, [start, end, from, to, rate]);
+        draft.add(Kind::Contact, [start, end, to, from, rate / 4]);
+    }
+    draft.renumber(random);
+    for contact in draft.contacts.clone() {
+        range_by_clock(&mut draft, random, &contact, 10 * MINUTE, 90_000);
+    }
+    random.shuffle(&mut draft.ranges);
     draft
 }
 

@@ -2,26 +2,32 @@
 //! ones, each aimed at something that goes wrong easily.
 
 use crate::cases::draft::Draft;
-use crate::cases::large_plans::{crowd, day, full_limits, grid, line, ring, stages, two_nodes};
-use crate::cases::small_plans::{limits, loops, short_ranges, small_ties, tangle, touching, waits};
+use crate::cases::large_plans::{
+    crowd, day, full_limits, grid, line, ring, stages, ten_minutes, two_nodes,
+};
+use crate::cases::small_plans::{
+    cut_ranges, limits, loops, short_ranges, small_ties, tangle, touching, waits,
+};
+use crate::plan::Row;
 use crate::random::Random;
 
 /// A family: its name, and a plan of it.
 pub type Family = (&'static str, fn(&mut Random) -> Draft);
 
 /// The families whose plans are small enough to try all chains.
-pub const SMALL: [Family; 7] = [
+pub const SMALL: [Family; 8] = [
     ("tangle", tangle),
     ("loops", loops),
     ("waits", waits),
     ("touching", touching),
     ("limits", limits),
     ("short ranges", short_ranges),
+    ("cut ranges", cut_ranges),
     ("ties", small_ties),
 ];
 
 /// The families of large plans.
-pub const LARGE: [Family; 8] = [
+pub const LARGE: [Family; 9] = [
     ("crowd", crowd),
     ("line", line),
     ("ring", ring),
@@ -29,6 +35,7 @@ pub const LARGE: [Family; 8] = [
     ("grid", grid),
     ("stages", stages),
     ("day", day),
+    ("ten minutes", ten_minutes),
     ("full limits", full_limits),
 ];
 
@@ -50,6 +57,26 @@ pub fn figures_plan() -> Draft {
             [0, 30000, 1, 4, 5],
         ],
     )
+}
+
+/// The same plan with its ranges cut every second, the latest first.
+pub fn cut_figures_plan() -> Draft {
+    let Draft { contacts, ranges } = figures_plan();
+    let cut = |range: &Row| -> Vec<Row> {
+        let seconds = range[0] / 1000..range[1] / 1000;
+        let piece = |second| {
+            [
+                1000 * second,
+                1000 * (second + 1),
+                range[2],
+                range[3],
+                range[4],
+            ]
+        };
+        seconds.rev().map(piece).collect()
+    };
+    let pieces: Vec<Row> = ranges.iter().flat_map(cut).collect();
+    Draft::of(&contacts, &pieces)
 }
 
 /// The plan of case H.

@@ -85,9 +85,12 @@ impl Session {
 
 #[cfg(test)]
 mod tests {
-    use super::{filling, session, Step, KINDS};
+    use std::collections::BTreeSet;
+
+    use super::{filling, session, Session, Step, KINDS};
+    use crate::faults::CAUSES;
     use crate::random::Random;
-    use crate::refusal::{Refusal, BOOK_FULL};
+    use crate::refusal::{Refusal, BOOK_FULL, ENDS_ELSEWHERE};
     use crate::units::LONGEST_BEST;
 
     #[test]
@@ -100,21 +103,47 @@ mod tests {
         }
     }
 
-    #[test]
-    fn a_filling_session_finds_the_book_full() {
-        let session = filling(&mut Random::for_case(1, 1), 400);
+    /// Takes a session's steps; the refusals of its bookings, and of its walks
+    /// with the length of the chain.
+    fn refusals(session: Session) -> (Vec<Refusal>, Vec<(Refusal, u64)>) {
         let mut lent = session.lent;
-        let mut found_full = false;
+        let (mut of_bookings, mut of_walks) = (Vec::new(), Vec::new());
         for step in session.steps {
             match step {
                 Step::Book { ask, class } => {
                     let booked = lent.book(ask, class, &mut [0; LONGEST_BEST]);
-                    found_full |= booked == Err(Refusal::bare(BOOK_FULL));
+                    of_bookings.extend(booked.err());
+                }
+                Step::Walk { ask, class, chain } => {
+                    let walked = lent.walk(ask, class, &chain).err();
+                    of_walks.extend(walked.map(|refusal| (refusal, chain.len() as u64)));
                 }
                 Step::Release { place } => drop(lent.release(place)),
-                Step::Ask { .. } | Step::Walk { .. } => {}
+                Step::Ask { .. } => {}
             }
         }
-        assert!(found_full);
+        (of_bookings, of_walks)
+    }
+
+    #[test]
+    fn a_filling_session_finds_the_book_full() {
+        let session = filling(&mut Random::for_case(1, 1), 400);
+        let (of_bookings, _) = refusals(session);
+        assert!(of_bookings.contains(&Refusal::bare(BOOK_FULL)));
+    }
+
+    #[test]
+    fn walks_of_sessions_meet_every_cause() {
+        let all = (0..400).flat_map(|number| refusals(session(7, number, 40)).1);
+        let met: BTreeSet<(u64, bool, bool)> = all
+            .map(|(Refusal { number, place }, length)| (number, place <= 1, place == length))
+            .collect();
+        for cause in CAUSES {
+            for (is_first, is_last) in [(true, false), (false, false), (false, true)] {
+                assert!(met.contains(&(cause, is_first, is_last)), "{cause}");
+            }
+        }
+        assert!(met.contains(&(ENDS_ELSEWHERE, true, true)));
+        assert!(met.contains(&(ENDS_ELSEWHERE, false, true)));
     }
 }

@@ -2,7 +2,8 @@
 
 use crate::cases::draft::{Draft, Kind};
 use crate::cases::ranging::{
-    add_range, range_all_somehow, range_all_wide, range_somehow, some_nodes, two_of,
+    add_range, range_all_somehow, range_all_wide, range_by_clock, range_in_pieces, range_somehow,
+    some_nodes, two_of,
 };
 use crate::random::Random;
 use crate::units::{HIGHEST_RATE, LATEST_TIME, LONGEST_LIGHT};
@@ -116,14 +117,14 @@ pub fn touching(random: &mut Random) -> Draft {
         if random.percent(70) {
             add_range(&mut draft, &contact, contact[0], contact[1], light);
         } else {
-            range_somehow(&mut draft, random, &contact, light);
+            range_somehow(&mut draft, random, &contact, 20);
         }
     }
     draft
 }
 
-/// One chain of three contacts beside a slower one; ranges cover exactly or
-/// are a millisecond short at one end.
+/// One chain of three contacts beside a slower one; ranges cover exactly, or
+/// are a millisecond short at one end or between two of them.
 pub fn short_ranges(random: &mut Random) -> Draft {
     let nodes = some_nodes(random, 4);
     let mut draft = Draft::default();
@@ -135,11 +136,17 @@ pub fn short_ranges(random: &mut Random) -> Draft {
     draft.add(Kind::Contact, [5, 60, nodes[0], nodes[2], 500]);
     for contact in draft.contacts.clone() {
         let [start, end, ..] = contact;
-        let light = random.below(4);
-        match random.below(5) {
+        let (light, other) = (random.below(4), random.below(4));
+        let middle = random.between(start + 1, end - 2);
+        match random.below(8) {
             0 => add_range(&mut draft, &contact, start + 1, end + 9, light),
             1 => add_range(&mut draft, &contact, 0, end - 1, light),
             2 => add_range(&mut draft, &contact, start, end, light),
+            turn @ 3..=5 => {
+                let gap = u64::from(turn == 3);
+                add_range(&mut draft, &contact, middle + gap, end, light);
+                add_range(&mut draft, &contact, 0, middle, other);
+            }
             _ => add_range(
                 &mut draft,
                 &contact,
@@ -147,6 +154,32 @@ pub fn short_ranges(random: &mut Random) -> Draft {
                 end + 1,
                 light,
             ),
+        }
+    }
+    draft
+}
+
+/// Passes of a few pairs under ranges that were cut: each pass in its own way,
+/// or all of them by a clock.
+pub fn cut_ranges(random: &mut Random) -> Draft {
+    let count = random.between(2, 4) as usize;
+    let nodes = some_nodes(random, count);
+    let mut draft = Draft::default();
+    for _ in 0..random.between(2, 8) {
+        let (from, to) = two_of(random, &nodes);
+        let start = random.below(40);
+        let end = start + random.pick(&[1, 2, 8, 20, 40, 60]);
+        let rate = random.pick(&[500, 1000, 2000, 1_000_000]);
+        draft.add(Kind::Contact, [start, end, from, to, rate]);
+    }
+    let longest_light = random.pick(&[0, 3, 3, 20]);
+    let by_clock = random.percent(40);
+    let length = random.pick(&[1, 5, 10, 25]);
+    for contact in draft.contacts.clone() {
+        if by_clock && random.percent(85) {
+            range_by_clock(&mut draft, random, &contact, length, longest_light);
+        } else {
+            range_in_pieces(&mut draft, random, &contact, longest_light);
         }
     }
     draft
@@ -184,13 +217,11 @@ pub fn limits(random: &mut Random) -> Draft {
     }
     for contact in draft.contacts.clone() {
         let light = random.pick(&[0, 1, LONGEST_LIGHT - 1, LONGEST_LIGHT]);
-        let exact = random.percent(50);
-        let (start, end) = if exact {
-            (contact[0], contact[1])
-        } else {
-            (0, LATEST_TIME)
-        };
-        add_range(&mut draft, &contact, start, end, light);
+        match random.below(4) {
+            0 | 1 => add_range(&mut draft, &contact, contact[0], contact[1], light),
+            2 => add_range(&mut draft, &contact, 0, LATEST_TIME, light),
+            _ => range_in_pieces(&mut draft, random, &contact, LONGEST_LIGHT),
+        }
     }
     draft
 }

@@ -96,18 +96,22 @@ impl Course<'_> {
         let mut class = books::class(random);
         let network = self.network(class);
         let mut ask = self.some_ask(random, mix, &network, class);
-        let chain = self.some_chain(random, &network, &ask, class);
+        let walks = !books && random.percent(50);
+        let mut chain = Vec::new();
+        if walks {
+            (ask, chain) = self.some_walk(random, &network, ask, class);
+        }
         match random.below(50) {
             0 => class = books::class_at_limits(random),
             1 => ask = asks::at_limits(random, &ask),
             _ => {}
         }
-        if books {
-            Step::Book { ask, class }
-        } else if random.percent(50) {
-            Step::Ask { ask, class }
-        } else {
+        if walks {
             Step::Walk { ask, class, chain }
+        } else if books {
+            Step::Book { ask, class }
+        } else {
+            Step::Ask { ask, class }
         }
     }
 
@@ -138,23 +142,26 @@ impl Course<'_> {
         }
     }
 
-    /// A chain made for the plan with its book, or without.
-    fn some_chain(
+    /// A chain made for the plan with its book, or without; the ask at times
+    /// excludes a node to which the chain goes from the source later.
+    fn some_walk(
         &self,
         random: &mut Random,
         network: &Network,
-        ask: &Ask,
+        ask: Ask,
         class: u64,
-    ) -> Vec<u64> {
-        if random.percent(50) {
-            let definitions = Definitions::of(&self.plan);
-            let network = Network::prepare(&self.plan);
-            chains::chain(random, &definitions, &network, ask, 12)
+    ) -> (Ask, Vec<u64>) {
+        let unbooked = Network::prepare(&self.plan);
+        let (definitions, network) = if random.percent(50) {
+            (Definitions::of(&self.plan), &unbooked)
         } else {
             let book = &self.lent.book;
-            let definitions = Definitions::booked(&self.plan, &book.words, &book.numbers, class);
-            chains::chain(random, &definitions, network, ask, 12)
-        }
+            let booked = Definitions::booked(&self.plan, &book.words, &book.numbers, class);
+            (booked, network)
+        };
+        let chain = chains::chain(random, &definitions, network, &ask, 12);
+        let later = chains::exclude_later(random, &definitions, &ask, &chain);
+        (random.pick(&[ask, later]), chain)
     }
 }
 

@@ -1,6 +1,6 @@
 //! Damaged tables, books, asks and classes in every call on a book: the
-//! refusals 15, 9, 11, 24, 12 and 26 and their order, and that a refused call
-//! changes nothing.
+//! refusals 15, 9, 11, 24, 12 and 26 and their order, that they come before
+//! those of a walked chain, and that a refused call changes nothing.
 
 use crate::ask::Ask;
 use crate::cases::asks;
@@ -13,7 +13,8 @@ use crate::checks::tally::Tally;
 use crate::plain::{ask_refusal_in, book_is_valid, is_valid};
 use crate::random::Random;
 use crate::refusal::{
-    Refusal, ASK_VALUE, NOT_OPEN, NO_SUCH_CLASS, NO_VALID_PLAN, SHORT_CHAIN, SOURCE_IS_DESTINATION,
+    Refusal, ASK_VALUE, ENDS_ELSEWHERE, NOT_OPEN, NO_SUCH_CLASS, NO_SUCH_CONTACT, NO_VALID_PLAN,
+    SHORT_CHAIN, SOURCE_IS_DESTINATION,
 };
 use crate::units::{LONGEST_BEST, PLACES};
 
@@ -59,8 +60,13 @@ fn check_on_ask(lent: &Lent, ask: Ask, class: u64, tally: &mut Tally) {
         Some(NO_SUCH_CLASS) => "book calls, no such class",
         Some(_) => "book calls, ask out of range or to its source",
     };
-    let walked = lent.walk(ask, class, &[1]).err();
-    tally.same(what, early(walked), wanted, about);
+    for (chain, of_chain) in [
+        (&[0][..], Refusal::new(NO_SUCH_CONTACT, 1)),
+        (&[], Refusal::bare(ENDS_ELSEWHERE)),
+    ] {
+        let walked = lent.walk(ask, class, chain).err();
+        tally.same(what, walked, wanted.or(Some(of_chain)), about);
+    }
     let routed = lent.route(ask, class, &mut [0; LONGEST_BEST]).err();
     tally.same(what, early(routed), wanted, about);
     for places in [LONGEST_BEST, LONGEST_BEST - 1] {

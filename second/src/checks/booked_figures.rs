@@ -12,7 +12,7 @@ use crate::cases::plans::figures_plan;
 use crate::cases::tables::Tables;
 use crate::checks::tally::Tally;
 use crate::random::Random;
-use crate::refusal::Refusal;
+use crate::refusal::{Refusal, DOES_NOT_FIT};
 use crate::units::LONGEST_BEST;
 
 const WHAT: &str = "figures of bookings, by hand";
@@ -47,7 +47,8 @@ pub fn check(tally: &mut Tally) {
         ],
         tally,
     );
-    walk_short_way(&lent, 1, Err(16), tally);
+    let at_contact_2 = Refusal::new(DOES_NOT_FIT, 2);
+    walk_short_way(&lent, 1, Err(at_contact_2), tally);
     walk_short_way(&lent, 2, Ok(1427), tally);
     walk_short_way(&lent, 3, Ok(2427), tally);
     let left = [1, 2, 3].map(|class| lent.book.left(&draft, 2, class));
@@ -87,11 +88,9 @@ fn book_all(lent: &mut Lent, wanted: &[Booked], tally: &mut Tally) {
     }
 }
 
-/// Walks contacts 1 and 2: the room, or the refusal's number.
-fn walk_short_way(lent: &Lent, class: u64, wanted: Result<u64, u64>, tally: &mut Tally) {
+/// Walks contacts 1 and 2: the room, or the refusal.
+fn walk_short_way(lent: &Lent, class: u64, wanted: Result<u64, Refusal>, tally: &mut Tally) {
     let walked = lent.walk(ASK_A, class, &[1, 2]);
-    let found = walked
-        .map(|figures| figures.room)
-        .map_err(|refusal| refusal.number);
+    let found = walked.map(|figures| figures.room);
     tally.same(WHAT, found, wanted, || format!("walk in class {class}"));
 }

@@ -3,6 +3,7 @@
 //! is said of volumes.
 
 use crate::ask::Ask;
+use crate::cases::asks;
 use crate::cases::books::{self, FAMILIES};
 use crate::cases::chains::{chain, exclude_later};
 use crate::cases::draft::Draft;
@@ -10,6 +11,7 @@ use crate::cases::lent::{Lent, LentBook};
 use crate::cases::plans::SMALL;
 use crate::cases::tables::Tables;
 use crate::checks::booked_routes::{numbers, shown};
+use crate::checks::causes;
 use crate::checks::tally::Tally;
 use crate::definitions::Definitions;
 use crate::exhaustive::AllChains;
@@ -22,6 +24,11 @@ use crate::units::LONGEST_BEST;
 
 const CHAINS_A_BOOK: usize = 8;
 const ASKS_OF_EMPTY_BOOK: usize = 8;
+/// The call as the kinds of refused chains have it.
+pub const CALL: &str = "booked walk";
+/// The same where the chain would be refused otherwise, or not at all, if
+/// nothing were booked.
+pub const FOR_BOOKINGS: &str = "booked walk, for bookings";
 
 /// Random chains on a small plan of every family, with a book of any.
 pub fn check(random: &mut Random, tally: &mut Tally) {
@@ -101,6 +108,14 @@ impl Case {
                 let about = self.about(ask, class);
                 format!("{about}{}chain {chain:?}", shown(&self.lent.book))
             });
+            if let Ok(ask) = ask.check() {
+                let call = if wanted == without {
+                    CALL
+                } else {
+                    FOR_BOOKINGS
+                };
+                causes::meet(call, &booked, &ask, &chain, tally);
+            }
         }
     }
 
@@ -126,7 +141,9 @@ impl Case {
 
     fn some_ask(&self, random: &mut Random) -> (u64, Ask) {
         let class = books::class(random);
-        let ask = books::ask(random, &self.draft, &self.lent.book, class);
+        let ask = asks::likely(&self.network, 3, || {
+            books::ask(random, &self.draft, &self.lent.book, class)
+        });
         (class, ask)
     }
 

@@ -1,5 +1,6 @@
-//! The figures that document 01 gives, cases A to I, and those it leaves out,
-//! and the program's refusals of a whole plan or input.
+//! The figures that document 01 gives, cases A to I, and those it leaves out, a
+//! pass under ranges that were cut, and the program's refusals of a whole plan
+//! or input.
 
 use crate::ask::Ask;
 use crate::calls::walk;
@@ -10,7 +11,7 @@ use crate::checks::tally::Tally;
 use crate::exhaustive::AllChains;
 use crate::layered::Layered;
 use crate::program::answers;
-use crate::refusal::Refusal;
+use crate::refusal::{Refusal, DOES_NOT_JOIN, ENDS_ELSEWHERE};
 use crate::route::Network;
 use crate::units::LONGEST_TEXT;
 
@@ -25,6 +26,25 @@ refused\t12\t0
 const PRINTED_H: &str = "route\t5002\t500\t1998\t1456310\t2\t3\t4\n";
 const PRINTED_I: &str = "route\t4\t0\t996\t485436\t2\t2\t3\n";
 
+/// A pass under three ranges that touch: 1030 bytes take 1030 ms, and the light
+/// time is 700 ms from the start on, though that range begins at 5000. The pass
+/// carries 10,000 bytes, which is the consumption of 9708.
+const CUT_PASS: &[u8] = b"plan\t1
+contact\t0\t10000\t1\t2\t1000
+range\t5000\t9000\t1\t2\t700
+range\t0\t5000\t1\t2\t10
+range\t9000\t10000\t1\t2\t0
+range\t10000\t20000\t1\t2\t900
+";
+/// The same with a millisecond between two of the ranges.
+const GAP: &[u8] = b"plan\t1
+contact\t0\t10000\t1\t2\t1000
+range\t0\t5000\t1\t2\t10
+range\t5001\t10000\t1\t2\t700
+";
+const CUT_ASK: &[u8] = b"ask\t1\t2\t0\t1000\t30000\t0\n";
+const PRINTED_CUT: &str = "route\t1730\t0\t8970\t9708\t1\t1\n";
+
 /// A plan's text, an input of asks and what is to be printed.
 type Case<'a> = (&'static str, &'a [u8], &'a [u8], &'a str);
 
@@ -33,8 +53,12 @@ pub fn check(tally: &mut Tally) {
     let full_input = vec![b'\n'; LONGEST_TEXT];
     let full_answers: String = (1..=LONGEST_TEXT).map(refused_17).collect();
     let over_full_input = vec![b'\n'; LONGEST_TEXT + 1];
-    let cases: [Case; 9] = [
+    let cut = plans::cut_figures_plan();
+    let cases: [Case; 12] = [
         ("A to G", &figures.text(), FIGURE_ASKS, PRINTED_A_TO_G),
+        ("A to G, cut", &cut.text(), FIGURE_ASKS, PRINTED_A_TO_G),
+        ("cut pass", CUT_PASS, CUT_ASK, PRINTED_CUT),
+        ("cut pass with a gap", GAP, CUT_ASK, "refused\t13\t0\n"),
         ("H", &h.text(), TIE_ASK, PRINTED_H),
         ("I", &i.text(), TIE_ASK, PRINTED_I),
         (
@@ -99,8 +123,8 @@ fn check_walks_of_h(h: &Draft, tally: &mut Tally) {
     let chains: [(&[u64], Result<u64, Refusal>); 4] = [
         (&[3, 4], Ok(5002)),
         (&[1, 2, 4], Ok(5002)),
-        (&[1, 4], Err(Refusal::bare(16))),
-        (&[], Err(Refusal::bare(16))),
+        (&[1, 4], Err(Refusal::new(DOES_NOT_JOIN, 2))),
+        (&[], Err(Refusal::bare(ENDS_ELSEWHERE))),
     ];
     for (chain, wanted) in chains {
         let walked = walk(&contacts, 4, &ranges, 4, ask, chain);

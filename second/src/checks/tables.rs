@@ -1,5 +1,6 @@
 //! Lent tables and asks against the plain definitions, in every call: the
-//! refusals 15, 9, 11 and 12 and their order.
+//! refusals 15, 9, 11 and 12 and their order, and that they come before those
+//! of a walked chain.
 
 use crate::ask::Ask;
 use crate::calls::{route, walk};
@@ -9,7 +10,10 @@ use crate::cases::tables::Tables;
 use crate::checks::tally::Tally;
 use crate::plain::{ask_refusal, is_valid};
 use crate::random::Random;
-use crate::refusal::{Refusal, ASK_VALUE, NO_VALID_PLAN, SHORT_CHAIN, SOURCE_IS_DESTINATION};
+use crate::refusal::{
+    Refusal, ASK_VALUE, ENDS_ELSEWHERE, NO_SUCH_CONTACT, NO_VALID_PLAN, SHORT_CHAIN,
+    SOURCE_IS_DESTINATION,
+};
 use crate::text::write;
 use crate::units::LONGEST_BEST;
 
@@ -51,7 +55,13 @@ fn check_calls(tables: &Tables, ask: Ask, tally: &mut Tally) {
         Some(_) => "calls, ask out of range or to its source",
     };
     tally.same(what, early(written(tables)), of_tables, about);
-    tally.same(what, early(walked(tables, ask)), of_call, about);
+    for (chain, of_chain) in [
+        (&[0][..], Refusal::new(NO_SUCH_CONTACT, 1)),
+        (&[], Refusal::bare(ENDS_ELSEWHERE)),
+    ] {
+        let wanted = of_call.or(Some(of_chain));
+        tally.same(what, walked(tables, ask, chain), wanted, about);
+    }
     tally.same(
         what,
         early(routed(tables, ask, LONGEST_BEST)),
@@ -89,14 +99,14 @@ fn written(tables: &Tables) -> Option<Refusal> {
     written.err()
 }
 
-fn walked(tables: &Tables, ask: Ask) -> Option<Refusal> {
+fn walked(tables: &Tables, ask: Ask, chain: &[u64]) -> Option<Refusal> {
     let walked = walk(
         &tables.contacts,
         tables.contact_count,
         &tables.ranges,
         tables.range_count,
         ask,
-        &[1],
+        chain,
     );
     walked.err()
 }

@@ -9,6 +9,7 @@ const SHOWN: u64 = 20;
 #[derive(Default)]
 pub struct Tally {
     counts: BTreeMap<&'static str, u64>,
+    met: BTreeMap<String, u64>,
     differences: u64,
 }
 
@@ -35,6 +36,17 @@ impl Tally {
         self.differences
     }
 
+    /// Counts a case of a kind that is to be met.
+    pub fn meet(&mut self, kind: String) {
+        *self.met.entry(kind).or_default() += 1;
+    }
+
+    /// Those of these kinds that were never met.
+    pub fn never_met(&self, kinds: Vec<String>) -> Vec<String> {
+        let is_unmet = |kind: &String| !self.met.contains_key(kind);
+        kinds.into_iter().filter(is_unmet).collect()
+    }
+
     /// Says on the error output how far the checks are, ten times in all.
     pub fn show_progress(&self, done: u64, all: u64) {
         if done.is_multiple_of(all.div_ceil(10)) {
@@ -43,8 +55,13 @@ impl Tally {
         }
     }
 
-    /// Prints every count.
+    /// Prints every count: what was met, and then what was checked.
     pub fn print(&self) {
+        println!("met:");
+        for (kind, count) in &self.met {
+            println!("{count:>9} {kind}");
+        }
+        println!("checked:");
         for (check, count) in &self.counts {
             println!("{count:>9} {check}");
         }
