@@ -1,6 +1,6 @@
 //! One call of a C function: all that is given and lent.
 
-use oivarnum::raw;
+use oivarnum::raw::{ANSWER_WORDS, BOOKED_WORDS};
 use second::Ask;
 
 use crate::lent::Lent;
@@ -12,10 +12,33 @@ pub enum Function {
     Write,
     Walk,
     Route,
+    WalkBooked,
+    RouteBooked,
+    BookRoute,
+    Release,
 }
 
 impl Function {
-    pub const ALL: [Self; 4] = [Self::Read, Self::Write, Self::Walk, Self::Route];
+    pub const COUNT: usize = 8;
+
+    pub const ALL: [Self; Self::COUNT] = [
+        Self::Read,
+        Self::Write,
+        Self::Walk,
+        Self::Route,
+        Self::WalkBooked,
+        Self::RouteBooked,
+        Self::BookRoute,
+        Self::Release,
+    ];
+
+    /// Those that are lent a book.
+    pub const ON_BOOK: [Self; 4] = [
+        Self::WalkBooked,
+        Self::RouteBooked,
+        Self::BookRoute,
+        Self::Release,
+    ];
 
     pub fn name(self) -> &'static str {
         match self {
@@ -23,7 +46,24 @@ impl Function {
             Self::Write => "write",
             Self::Walk => "walk",
             Self::Route => "route",
+            Self::WalkBooked => "walk_booked",
+            Self::RouteBooked => "route_booked",
+            Self::BookRoute => "book_route",
+            Self::Release => "release",
         }
+    }
+
+    /// The words that its answer must have.
+    pub fn answer_words(self) -> usize {
+        match self {
+            Self::BookRoute => BOOKED_WORDS,
+            _ => ANSWER_WORDS,
+        }
+    }
+
+    /// Whether a chain of any length is given to it.
+    pub fn walks(self) -> bool {
+        matches!(self, Self::Walk | Self::WalkBooked)
     }
 }
 
@@ -34,6 +74,8 @@ pub struct Memory {
     pub bytes: Lent<u8>,
     pub contacts: Lent<u64>,
     pub ranges: Lent<u64>,
+    pub book: Lent<u64>,
+    pub booked: Lent<u16>,
     pub chain: Lent<u64>,
     pub answer: Lent<u64>,
 }
@@ -41,9 +83,15 @@ pub struct Memory {
 impl Memory {
     /// The bytes lent in all.
     pub fn size(&self) -> usize {
-        let words = [&self.contacts, &self.ranges, &self.chain, &self.answer];
+        let words = [
+            &self.contacts,
+            &self.ranges,
+            &self.book,
+            &self.chain,
+            &self.answer,
+        ];
         let words: usize = words.iter().map(|lent| lent.len()).sum();
-        self.bytes.len() + words * size_of::<u64>()
+        self.bytes.len() + self.booked.len() * size_of::<u16>() + words * size_of::<u64>()
     }
 }
 
@@ -52,115 +100,8 @@ pub struct Call {
     pub contact_count: u64,
     pub range_count: u64,
     pub ask: Ask,
+    pub class: u64,
+    /// The place to release.
+    pub place: u64,
     pub memory: Memory,
-}
-
-impl Call {
-    /// Makes the call; the number that it returns.
-    pub fn perform(&mut self) -> u64 {
-        match self.function {
-            Function::Read => self.read(),
-            Function::Write => self.write(),
-            Function::Walk => self.walk(),
-            Function::Route => self.route(),
-        }
-    }
-
-    fn read(&mut self) -> u64 {
-        let text = self.memory.bytes.slice();
-        let contacts = self.memory.contacts.slice_mut();
-        let ranges = self.memory.ranges.slice_mut();
-        let answer = self.memory.answer.slice_mut();
-        // SAFETY: each pointer goes with the length of its slice.
-        unsafe {
-            raw::oivarnum_read(
-                text.as_ptr(),
-                text.len(),
-                contacts.as_mut_ptr(),
-                contacts.len(),
-                ranges.as_mut_ptr(),
-                ranges.len(),
-                answer.as_mut_ptr(),
-                answer.len(),
-            )
-        }
-    }
-
-    fn write(&mut self) -> u64 {
-        let contacts = self.memory.contacts.slice();
-        let ranges = self.memory.ranges.slice();
-        let out = self.memory.bytes.slice_mut();
-        let answer = self.memory.answer.slice_mut();
-        // SAFETY: each pointer goes with the length of its slice.
-        unsafe {
-            raw::oivarnum_write(
-                contacts.as_ptr(),
-                contacts.len(),
-                self.contact_count as usize,
-                ranges.as_ptr(),
-                ranges.len(),
-                self.range_count as usize,
-                out.as_mut_ptr(),
-                out.len(),
-                answer.as_mut_ptr(),
-                answer.len(),
-            )
-        }
-    }
-
-    fn walk(&mut self) -> u64 {
-        let contacts = self.memory.contacts.slice();
-        let ranges = self.memory.ranges.slice();
-        let chain = self.memory.chain.slice();
-        let answer = self.memory.answer.slice_mut();
-        // SAFETY: each pointer goes with the length of its slice.
-        unsafe {
-            raw::oivarnum_walk(
-                contacts.as_ptr(),
-                contacts.len(),
-                self.contact_count as usize,
-                ranges.as_ptr(),
-                ranges.len(),
-                self.range_count as usize,
-                self.ask.source,
-                self.ask.destination,
-                self.ask.time,
-                self.ask.size,
-                self.ask.deadline,
-                self.ask.excluded,
-                chain.as_ptr(),
-                chain.len(),
-                answer.as_mut_ptr(),
-                answer.len(),
-            )
-        }
-    }
-
-    fn route(&mut self) -> u64 {
-        let contacts = self.memory.contacts.slice();
-        let ranges = self.memory.ranges.slice();
-        let chain = self.memory.chain.slice_mut();
-        let answer = self.memory.answer.slice_mut();
-        // SAFETY: each pointer goes with the length of its slice.
-        unsafe {
-            raw::oivarnum_route(
-                contacts.as_ptr(),
-                contacts.len(),
-                self.contact_count as usize,
-                ranges.as_ptr(),
-                ranges.len(),
-                self.range_count as usize,
-                self.ask.source,
-                self.ask.destination,
-                self.ask.time,
-                self.ask.size,
-                self.ask.deadline,
-                self.ask.excluded,
-                chain.as_mut_ptr(),
-                chain.len(),
-                answer.as_mut_ptr(),
-                answer.len(),
-            )
-        }
-    }
 }

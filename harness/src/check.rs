@@ -4,7 +4,7 @@ use std::fmt::Display;
 
 use crate::call::{Call, Memory};
 use crate::lent::Lent;
-use crate::wanted::{wanted, Wanted};
+use crate::wanted::{by_second, Wanted};
 
 pub struct Checked {
     pub wanted: Wanted,
@@ -12,15 +12,23 @@ pub struct Checked {
     pub differences: Vec<String>,
 }
 
+/// Makes a call by itself, on memory that is lent once.
 pub fn check(call: &mut Call) -> Checked {
-    let wanted = wanted(call);
+    let mut memory = call.memory.clone();
+    check_beside(call, &mut memory)
+}
+
+/// Makes a call through the archive on its own memory, and by the second
+/// program on other memory that holds the same.
+pub fn check_beside(call: &mut Call, memory: &mut Memory) -> Checked {
+    let wanted = by_second(call, memory);
     let returned = call.perform();
     let mut differences = Vec::new();
     if returned != wanted.returned {
         let number = wanted.returned;
         differences.push(format!("returned {returned}, not {number}"));
     }
-    compare(&call.memory, &wanted.memory, &mut differences);
+    compare(&call.memory, memory, &mut differences);
     Checked {
         wanted,
         differences,
@@ -32,6 +40,8 @@ fn compare(found: &Memory, wanted: &Memory, differences: &mut Vec<String>) {
     let mut all = [
         first_difference("answer", &found.answer, &wanted.answer),
         first_difference("chain", &found.chain, &wanted.chain),
+        first_difference("book", &found.book, &wanted.book),
+        first_difference("booked", &found.booked, &wanted.booked),
         first_difference("contacts", &found.contacts, &wanted.contacts),
         first_difference("ranges", &found.ranges, &wanted.ranges),
         first_difference("bytes", &found.bytes, &wanted.bytes),

@@ -1,13 +1,18 @@
-//! The archive's four C functions against the second program.
+//! The archive's C functions against the second program.
 //!
-//! [`cases`] makes the calls, [`wanted`] says by the second program what each
-//! must give, [`check`] makes one and compares every lent word and byte, and
-//! [`stack`] measures what a call takes of a stack.
+//! [`cases`] makes the calls, `perform` makes one through the archive and
+//! [`wanted`] by the second program, [`check`] does both and compares every
+//! lent word and byte, [`sessions`] does so step by step on a book that the
+//! steps change, and [`stack`] measures what a call takes of a stack.
 
 pub mod call;
 pub mod cases;
 pub mod check;
 pub mod lent;
+mod perform;
+pub mod progress;
+pub mod sessions;
+pub mod setting;
 pub mod show;
 pub mod stack;
 pub mod tally;

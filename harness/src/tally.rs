@@ -4,15 +4,26 @@ use crate::call::Function;
 use crate::wanted::Wanted;
 
 /// The largest number of a refusal that a function gives.
-const LARGEST: usize = 16;
+const LARGEST: usize = 26;
 
-/// What each function must be seen to give at least once; 0 is success.
-const MUST_MEET: [(Function, &[usize]); 4] = [
-    (Function::Read, &[0, 1, 2, 3, 4, 5, 6, 7, 8]),
-    (Function::Write, &[0, 9, 10]),
-    (Function::Walk, &[0, 9, 11, 12, 14, 16]),
-    (Function::Route, &[0, 9, 11, 12, 13, 14, 15]),
-];
+/// What a walk must be seen to say of chains that are not allowed.
+const NOT_ALLOWED: &[usize] = &[18, 19, 20, 21, 22, 23];
+
+/// What a function must be seen to give at least once; 0 is success.
+fn must_meet(function: Function) -> Vec<usize> {
+    let own: &[usize] = match function {
+        Function::Read => &[0, 1, 2, 3, 4, 5, 6, 7, 8],
+        Function::Write => &[0, 9, 10],
+        Function::Walk => &[0, 9, 11, 12, 14],
+        Function::Route => &[0, 9, 11, 12, 13, 14, 15],
+        Function::WalkBooked => &[0, 9, 11, 12, 14, 24],
+        Function::RouteBooked => &[0, 9, 11, 12, 13, 14, 15, 24],
+        Function::BookRoute => &[0, 9, 11, 12, 13, 14, 15, 24, 25],
+        Function::Release => &[0, 9, 26],
+    };
+    let of_chain = if function.walks() { NOT_ALLOWED } else { &[] };
+    [own, of_chain].concat()
+}
 
 /// The calls of one function.
 #[derive(Clone, Copy, Default)]
@@ -22,9 +33,15 @@ struct Counts {
     short_answer: u64,
 }
 
+impl Counts {
+    fn all(&self) -> u64 {
+        self.by_number.iter().sum::<u64>() + self.short_answer
+    }
+}
+
 #[derive(Clone, Copy, Default)]
 pub struct Tally {
-    counts: [Counts; 4],
+    counts: [Counts; Function::COUNT],
     pub differences: u64,
 }
 
@@ -49,12 +66,22 @@ impl Tally {
         self.differences += other.differences;
     }
 
-    /// What a function never gave though it must be seen to.
-    pub fn missing(&self) -> Vec<String> {
+    /// Whether nothing differs and these functions gave all that they must be
+    /// seen to; prints what is missing.
+    pub fn is_good(&self, functions: &[Function]) -> bool {
+        let missing = self.missing(functions);
+        if !missing.is_empty() {
+            println!("never met: {}", missing.join(", "));
+        }
+        self.differences == 0 && missing.is_empty()
+    }
+
+    fn missing(&self, functions: &[Function]) -> Vec<String> {
         let mut missing = Vec::new();
-        for (function, numbers) in MUST_MEET {
+        for &function in functions {
             let counts = &self.counts[function as usize];
-            let unmet = numbers.iter().filter(|&&n| counts.by_number[n] == 0);
+            let numbers = must_meet(function).into_iter();
+            let unmet = numbers.filter(|&number| counts.by_number[number] == 0);
             missing.extend(unmet.map(|number| format!("{} {number}", function.name())));
             if counts.short_answer == 0 {
                 missing.push(format!("{} short answer", function.name()));
@@ -63,39 +90,44 @@ impl Tally {
         missing
     }
 
-    /// Prints a row for each number, a column for each function.
-    pub fn print(&self) {
-        let names = Function::ALL.map(|function| format!("{:>8}", function.name()));
-        println!("refusal     {}", names.concat());
+    /// Prints a row for each number, a column for each of these functions.
+    pub fn print(&self, functions: &[Function]) {
+        let names = functions.iter().map(|function| function.name());
+        print_row("refusal", names.map(String::from));
         for number in 0..=LARGEST {
-            let row = self.counts.map(|counts| counts.by_number[number]);
+            let row = self.row(functions, |counts| counts.by_number[number]);
             if row.iter().any(|&count| count > 0) {
-                let name = if number == 0 {
-                    "0, success".into()
-                } else {
-                    number.to_string()
+                let name = match number {
+                    0 => "0, success".into(),
+                    _ => number.to_string(),
                 };
-                print_row(&name, row);
+                print_row(&name, row.into_iter().map(shown));
             }
         }
-        print_row(
-            "short answer",
-            self.counts.map(|counts| counts.short_answer),
-        );
-        let all = self.counts.map(|counts| {
-            let by_number: u64 = counts.by_number.iter().sum();
-            by_number + counts.short_answer
-        });
-        print_row("calls", all);
+        let short = self.row(functions, |counts| counts.short_answer);
+        print_row("short answer", short.into_iter().map(shown));
+        let all = self.row(functions, Counts::all);
         let calls: u64 = all.iter().sum();
+        print_row("calls", all.into_iter().map(shown));
         println!("{calls} calls, {} differences", self.differences);
+    }
+
+    fn row(&self, functions: &[Function], count: impl Fn(&Counts) -> u64) -> Vec<u64> {
+        let counts = functions
+            .iter()
+            .map(|&function| self.counts[function as usize]);
+        counts.map(|counts| count(&counts)).collect()
     }
 }
 
-fn print_row(name: &str, row: [u64; 4]) {
-    let row = row.map(|count| match count {
-        0 => format!("{:>8}", "."),
-        _ => format!("{count:>8}"),
-    });
-    println!("{name:<12}{}", row.concat());
+fn shown(count: u64) -> String {
+    match count {
+        0 => ".".into(),
+        _ => count.to_string(),
+    }
+}
+
+fn print_row(name: &str, row: impl Iterator<Item = String>) {
+    let row: String = row.map(|cell| format!("{cell:>13}")).collect();
+    println!("{name:<12}{row}");
 }

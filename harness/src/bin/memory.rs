@@ -5,34 +5,48 @@
 //!
 //! It makes so many calls of the harness (3000 if not given), and then the
 //! largest there are: `route` over a full plan with a best chain of 63, `walk`
-//! over chains of 10, 63 and 1,000,000 contacts, `read` of the longest plan and
-//! of the longest text, and `write` of the longest plan. A chain given to
-//! `walk` may have any length; no more than 63 places of it are counted as
-//! lent. The exit status is 0 only if every limit is kept.
+//! over chains of 10, 63 and 1,000,000 contacts, both over a full book too,
+//! `book_route` there and where the last place is free, `release` of a full
+//! book's last place, `read` of the longest plan and of the longest text, and
+//! `write` of the longest plan. A chain given to a walk may have any length; no
+//! more than 63 places of it are counted as lent. The exit status is 0 only if
+//! every limit is kept and each of the largest calls returns what it must.
 
 use std::process::ExitCode;
 
 use harness::call::{Call, Function};
-use harness::cases::{bytes, plain_tables, plans, reads, routes, walks, words, Cases, Given};
+use harness::cases::{booked, routes, walks};
+use harness::cases::{bytes, plain_tables, plans, reads, words, Cases, Given};
 use harness::stack::Stack;
-use oivarnum::raw::ANSWER_WORDS;
 use second::options::Options;
 use second::random::Random;
+use second::refusal::{BOOK_FULL, VALUE};
 use second::units::{LONGEST_BEST, LONGEST_TEXT, ROWS, WORDS};
 
 /// The most bytes that a call may take, stack and lent memory together.
 const MOST: usize = 262_144;
-/// The most bytes of stack that `route` may take.
-const MOST_STACK_OF_ROUTE: usize = 65_536;
+/// The most bytes of stack that a call may take.
+const MOST_STACK: usize = 65_536;
+/// The lengths of the chains that are walked.
+const WALKED: [u64; 3] = [10, 63, 1_000_000];
 /// The words of a table that has room for every plan.
 const TABLE: usize = ROWS * WORDS;
 
-/// The most that one function was seen to take.
+/// What a call takes, or the most that one function was seen to take.
 #[derive(Clone, Copy, Default)]
-struct Worst {
+struct Taken {
     stack: usize,
     lent: usize,
 }
+
+/// A measurer: the stack, and the most that each function was seen to take.
+struct Measurer {
+    stack: Stack,
+    worst: [Taken; Function::COUNT],
+}
+
+/// What is to hold, and whether it does.
+type Held = Vec<(String, bool)>;
 
 fn main() -> ExitCode {
     let (seed, calls) = match settings() {
@@ -42,25 +56,20 @@ fn main() -> ExitCode {
             return ExitCode::from(2);
         }
     };
-    let mut stack = Stack::new();
-    let mut worst = [Worst::default(); 4];
+    let mut measurer = Measurer {
+        stack: Stack::new(),
+        worst: Default::default(),
+    };
     let cases = Cases::new(seed);
     for number in 0..calls {
-        measure(&mut stack, &mut worst, cases.call(number));
+        measurer.measure(&mut cases.call(number));
     }
     let random = &mut Random::new(seed);
-    for (name, given) in largest(random) {
-        let call = given.lend(random, ANSWER_WORDS);
-        let taken = measure(&mut stack, &mut worst, call);
-        println!("{name}: {} of stack, {} lent", taken.stack, taken.lent);
-    }
-    let walked = [10, 63, 1_000_000].map(|length| {
-        let call = walks::long(length, 0).lend(random, ANSWER_WORDS);
-        let taken = measure(&mut stack, &mut worst, call);
-        println!("walk, chain of {length}: {} of stack", taken.stack);
-        taken.stack
-    });
-    report(&worst, walked)
+    let mut held = measurer.take_largest(random);
+    held.extend(measurer.take_walks(random, "walk", walks::long));
+    held.extend(measurer.take_walks(random, "walk_booked", booked::long));
+    held.extend(measurer.limits());
+    report(&held)
 }
 
 fn settings() -> Result<(u64, u64), String> {
@@ -71,70 +80,113 @@ fn settings() -> Result<(u64, u64), String> {
     Ok((seed, calls))
 }
 
-/// Makes a call on the stack; what it took.
-fn measure(stack: &mut Stack, worst: &mut [Worst; 4], mut call: Call) -> Worst {
-    let used = stack.measure(&mut || {
-        call.perform();
-    });
-    let taken = Worst {
-        stack: used,
-        lent: lent(&call),
-    };
-    let worst = &mut worst[call.function as usize];
-    worst.stack = worst.stack.max(taken.stack);
-    worst.lent = worst.lent.max(taken.lent);
-    taken
+impl Measurer {
+    /// Makes a call on the stack; the number that it returned, and what it took.
+    fn measure(&mut self, call: &mut Call) -> (u64, Taken) {
+        let mut returned = 0;
+        let stack = self.stack.measure(&mut || returned = call.perform());
+        let lent = lent(call);
+        let worst = &mut self.worst[call.function as usize];
+        worst.stack = worst.stack.max(stack);
+        worst.lent = worst.lent.max(lent);
+        (returned, Taken { stack, lent })
+    }
+
+    /// Makes the largest calls; whether each returned what it must.
+    fn take_largest(&mut self, random: &mut Random) -> Held {
+        let mut held = Held::new();
+        for (name, given, wanted) in largest(random) {
+            let (returned, Taken { stack, lent }) = self.measure(&mut lend(given, random));
+            println!("{name}: {stack} of stack, {lent} lent");
+            held.push((format!("{name}: returns {wanted}"), returned == wanted));
+        }
+        held
+    }
+
+    /// Walks chains of several lengths; whether each is allowed, and whether the
+    /// longest took the same stack as the shortest.
+    fn take_walks(&mut self, random: &mut Random, name: &str, long: fn(u64, u64) -> Given) -> Held {
+        let mut held = Held::new();
+        let walked = WALKED.map(|length| {
+            let (returned, Taken { stack, .. }) = self.measure(&mut lend(long(length, 0), random));
+            println!("{name}, chain of {length}: {stack} of stack");
+            let limit = format!("{name}, chain of {length}: returns 0");
+            held.push((limit, returned == 0));
+            stack
+        });
+        let limit = format!("{name}: the same stack for 10 and 1,000,000");
+        held.push((limit, walked[0] == walked[2]));
+        held
+    }
+
+    /// Prints the table; whether each function keeps the limits.
+    fn limits(&self) -> Held {
+        let mut held = Held::new();
+        println!("call            stack     lent      sum");
+        for function in Function::ALL {
+            let Taken { stack, lent } = self.worst[function as usize];
+            let sum = stack + lent;
+            let name = function.name();
+            println!("{name:<12} {stack:>8} {lent:>8} {sum:>8}");
+            held.push((format!("{name}: at most {MOST} in all"), sum <= MOST));
+            held.push((
+                format!("{name}: at most {MOST_STACK} of stack"),
+                stack <= MOST_STACK,
+            ));
+        }
+        held
+    }
 }
 
-/// The bytes lent, without what is given to `walk` beyond a best chain.
+/// Lends what is given, with an answer that is just long enough.
+fn lend(given: Given, random: &mut Random) -> Call {
+    let answer = given.function.answer_words();
+    given.lend(random, answer)
+}
+
+/// The bytes lent, without what is given to a walk beyond a best chain.
 fn lent(call: &Call) -> usize {
-    let beyond = match call.function {
-        Function::Walk => call.memory.chain.len().saturating_sub(LONGEST_BEST),
-        _ => 0,
+    let beyond = match call.function.walks() {
+        true => call.memory.chain.len().saturating_sub(LONGEST_BEST),
+        false => 0,
     };
     call.memory.size() - beyond * size_of::<u64>()
 }
 
-/// The largest inputs but the longest chains to walk.
-fn largest(random: &mut Random) -> Vec<(&'static str, Given)> {
+/// The largest inputs but the longest chains to walk: a name, what is given,
+/// and the number that is returned.
+fn largest(random: &mut Random) -> Vec<(&'static str, Given, u64)> {
     let plan = plans::longest_text();
     let (contacts, ranges) = (words(random, TABLE), words(random, TABLE));
     let read = |text| Given::read(text, contacts.clone(), ranges.clone());
     let (plan_text, text) = (read(plan.text()), read(reads::longest()));
     let mut write = |room| Given::write(plain_tables(&plan), bytes(random, room));
     let (exact, roomy) = (write(plan.text().len()), write(LONGEST_TEXT));
+    let mut on_full_book = |function, free| booked::full(random, function, free);
+    let route_booked = on_full_book(Function::RouteBooked, 0);
+    let book_full = on_full_book(Function::BookRoute, 0);
+    let book_last = on_full_book(Function::BookRoute, 1);
     vec![
-        ("read, plan of 46,087 bytes", plan_text),
-        ("read, text of 65,536 bytes", text),
-        ("write, room for 46,087 bytes", exact),
-        ("write, room for 65,536 bytes", roomy),
-        ("walk, full plan, chain of 63", walks::full()),
-        ("route, full plan, chain of 63", routes::longest(random)),
+        ("read, plan of 46,087 bytes", plan_text, 0),
+        ("read, text of 65,536 bytes", text, VALUE),
+        ("write, room for 46,087 bytes", exact, 0),
+        ("write, room for 65,536 bytes", roomy, 0),
+        ("walk, full plan, chain of 63", walks::full(), 0),
+        ("route, full plan, chain of 63", routes::longest(random), 0),
+        ("walk_booked, full book too", booked::full_walk(), 0),
+        ("route_booked, full book too", route_booked, 0),
+        ("book_route, full book too", book_full, BOOK_FULL),
+        ("book_route, last place free", book_last, 0),
+        ("release, full book", booked::full_release(), 0),
     ]
 }
 
-/// Prints the table and whether every limit is kept.
-fn report(worst: &[Worst; 4], walked: [usize; 3]) -> ExitCode {
-    let mut kept = Vec::new();
-    println!("call      stack     lent      sum");
-    for function in Function::ALL {
-        let Worst { stack, lent } = worst[function as usize];
-        let sum = stack + lent;
-        let name = function.name();
-        println!("{name:<6} {stack:>8} {lent:>8} {sum:>8}");
-        kept.push((format!("{name}: at most {MOST} in all"), sum <= MOST));
-    }
-    let route = worst[Function::Route as usize].stack;
-    kept.push((
-        format!("route: at most {MOST_STACK_OF_ROUTE} of stack"),
-        route <= MOST_STACK_OF_ROUTE,
-    ));
-    let same = walked[0] == walked[2];
-    kept.push(("walk: the same stack for 10 and 1,000,000".into(), same));
-    for (limit, is_kept) in &kept {
+/// Prints what is kept and what is not.
+fn report(held: &Held) -> ExitCode {
+    for (limit, is_kept) in held {
         println!("{}: {limit}", if *is_kept { "kept" } else { "NOT KEPT" });
     }
-    match kept.iter().all(|(_, is_kept)| *is_kept) {
+    match held.iter().all(|(_, is_kept)| *is_kept) {
         true => ExitCode::SUCCESS,
         false => ExitCode::FAILURE,
     }

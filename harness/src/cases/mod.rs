@@ -1,5 +1,7 @@
 //! The calls to make: a seed and a number give always the same call.
 
+pub mod booked;
+pub mod books;
 pub mod chains;
 pub mod plans;
 pub mod reads;
@@ -9,9 +11,9 @@ mod texts;
 pub mod walks;
 pub mod writes;
 
-use oivarnum::raw::ANSWER_WORDS;
 use second::cases::damage::{self, Damage};
 use second::cases::draft::Draft;
+use second::cases::lent::LentBook;
 use second::cases::tables::Tables;
 use second::random::Random;
 use second::Ask;
@@ -20,14 +22,20 @@ use crate::call::{Call, Function, Memory};
 use crate::lent::Lent;
 
 /// The functions in the order in which they have their turn.
-const TURNS: [Function; 8] = [
+const TURNS: [Function; 14] = [
     Function::Read,
-    Function::Walk,
+    Function::WalkBooked,
     Function::Route,
+    Function::BookRoute,
+    Function::Walk,
+    Function::RouteBooked,
     Function::Write,
+    Function::Release,
     Function::Walk,
     Function::Read,
+    Function::BookRoute,
     Function::Route,
+    Function::WalkBooked,
     Function::Walk,
 ];
 
@@ -54,8 +62,12 @@ impl Cases {
             Function::Write => writes::given(random, turn),
             Function::Walk => walks::given(random, turn),
             Function::Route => routes::given(random, turn),
+            Function::WalkBooked => booked::walk(random, turn),
+            Function::RouteBooked => booked::route(random, turn),
+            Function::BookRoute => booked::book(random, turn),
+            Function::Release => booked::release(random, turn),
         };
-        let answer = answer_length(random);
+        let answer = answer_length(random, function.answer_words());
         given.lend(random, answer)
     }
 }
@@ -70,13 +82,13 @@ fn turn(number: u64) -> (Function, u64) {
     (function, rounds * turns(&TURNS) as u64 + before)
 }
 
-/// Seven words, some more, or at times too few.
-fn answer_length(random: &mut Random) -> usize {
+/// The words that an answer must have, some more, or at times too few.
+fn answer_length(random: &mut Random, least: usize) -> usize {
     match random.below(100) {
-        0..=2 => random.index(ANSWER_WORDS),
-        3 => ANSWER_WORDS - 1,
-        4..=29 => ANSWER_WORDS + random.between(1, 9) as usize,
-        _ => ANSWER_WORDS,
+        0..=2 => random.index(least),
+        3 => least - 1,
+        4..=29 => least + random.between(1, 9) as usize,
+        _ => least,
     }
 }
 
@@ -86,11 +98,32 @@ pub struct Given {
     /// The text to read, or what stands where the text is to be written.
     pub bytes: Vec<u8>,
     pub tables: Tables,
+    pub book: LentBook,
     pub ask: Ask,
+    pub class: u64,
+    /// The place to release.
+    pub place: u64,
     pub chain: Vec<u64>,
 }
 
 impl Given {
+    /// The tables alone.
+    fn of(function: Function, tables: Tables) -> Self {
+        Self {
+            function,
+            bytes: Vec::new(),
+            tables,
+            book: LentBook {
+                words: Vec::new(),
+                numbers: Vec::new(),
+            },
+            ask: NO_ASK,
+            class: 0,
+            place: 0,
+            chain: Vec::new(),
+        }
+    }
+
     pub fn read(text: Vec<u8>, contacts: Vec<u64>, ranges: Vec<u64>) -> Self {
         let tables = Tables {
             contacts,
@@ -99,31 +132,23 @@ impl Given {
             range_count: 0,
         };
         Self {
-            function: Function::Read,
             bytes: text,
-            tables,
-            ask: NO_ASK,
-            chain: Vec::new(),
+            ..Self::of(Function::Read, tables)
         }
     }
 
     pub fn write(tables: Tables, out: Vec<u8>) -> Self {
         Self {
-            function: Function::Write,
             bytes: out,
-            tables,
-            ask: NO_ASK,
-            chain: Vec::new(),
+            ..Self::of(Function::Write, tables)
         }
     }
 
     pub fn walk(tables: Tables, ask: Ask, chain: Vec<u64>) -> Self {
         Self {
-            function: Function::Walk,
-            bytes: Vec::new(),
-            tables,
             ask,
             chain,
+            ..Self::of(Function::Walk, tables)
         }
     }
 
@@ -134,24 +159,48 @@ impl Given {
         }
     }
 
+    /// The same for another function, in a class and over a book.
+    pub fn over(self, function: Function, book: LentBook, class: u64) -> Self {
+        Self {
+            function,
+            book,
+            class,
+            ..self
+        }
+    }
+
+    pub fn release(tables: Tables, book: LentBook, place: u64) -> Self {
+        Self {
+            book,
+            place,
+            ..Self::of(Function::Release, tables)
+        }
+    }
+
     /// Lends it all, with an answer of so many words that hold anything.
     pub fn lend(self, random: &mut Random, answer: usize) -> Call {
         let answer = words(random, answer);
         let mut lent = |content: &[u64]| Lent::new(content, || random.word());
         let contacts = lent(&self.tables.contacts);
         let ranges = lent(&self.tables.ranges);
+        let book = lent(&self.book.words);
         let chain = lent(&self.chain);
         let answer = lent(&answer);
+        let booked = Lent::new(&self.book.numbers, || random.word() as u16);
         let bytes = Lent::new(&self.bytes, || random.word() as u8);
         Call {
             function: self.function,
             contact_count: self.tables.contact_count,
             range_count: self.tables.range_count,
             ask: self.ask,
+            class: self.class,
+            place: self.place,
             memory: Memory {
                 bytes,
                 contacts,
                 ranges,
+                book,
+                booked,
                 chain,
                 answer,
             },

@@ -16,18 +16,24 @@ pub fn given(random: &mut Random, turn: u64) -> Given {
         return longest(random);
     }
     let draft = plans::some(random, 6);
-    let mut ask = some_ask(random, &draft);
+    let network = Network::prepare(&draft.plan());
+    let mut ask = some_ask(random, &draft, &network, |random| asks::ask(random, &draft));
     if random.percent(12) {
         ask = asks::at_limits(random, &ask);
     }
     let tables = tables::some(random, &draft, 10);
+    Given::route(tables, ask, places(random))
+}
+
+/// Places for a chain, at times too few.
+pub fn places(random: &mut Random) -> Vec<u64> {
     let places = match random.below(100) {
         0..=2 => random.index(LONGEST_BEST),
         3..=5 => LONGEST_BEST - 1,
         6..=29 => LONGEST_BEST + random.index(40),
         _ => LONGEST_BEST,
     };
-    Given::route(tables, ask, words(random, places))
+    words(random, places)
 }
 
 /// The full plan through which a best chain has 63 contacts.
@@ -39,11 +45,15 @@ pub fn longest(random: &mut Random) -> Given {
 
 /// An ask: the first that comes, or the first of many for which a chain is
 /// allowed; at times with one value at the edge of what the answer says.
-fn some_ask(random: &mut Random, draft: &Draft) -> Ask {
-    let network = Network::prepare(&draft.plan());
+pub fn some_ask(
+    random: &mut Random,
+    draft: &Draft,
+    network: &Network,
+    any: impl Fn(&mut Random) -> Ask,
+) -> Ask {
     let mut tries = random.pick(&[1, 1, 6, 6]);
     loop {
-        let ask = asks::ask(random, draft);
+        let ask = any(random);
         let answer = ask.check().and_then(|good| network.best(&good));
         tries -= 1;
         match answer {

@@ -1,14 +1,17 @@
 //! What `walk` is given: a plan, an ask and a chain.
 
+use second::book::Book;
 use second::cases::draft::Draft;
+use second::cases::lent::LentBook;
 use second::cases::{asks, chains as good_chains};
-use second::exhaustive::Definitions;
+use second::definitions::Definitions;
+use second::plan::Plan;
 use second::random::Random;
-use second::refusal::{Refusal, CHAIN_NOT_ALLOWED};
+use second::refusal::{Refusal, NOT_IN_TIME};
 use second::route::Network;
 use second::router::{Best, Router};
 use second::timing::{figures, Figures, Links};
-use second::units::{ContactNo, NODES};
+use second::units::{Class, ContactNo, NODES};
 use second::Ask;
 
 use super::{chains, plain_tables, plans, tables, Given};
@@ -24,7 +27,9 @@ pub fn given(random: &mut Random, turn: u64) -> Given {
         return some_long(random);
     }
     let draft = plans::some(random, 4);
-    let (mut ask, mut chain) = some_walk(random, &draft);
+    let ways = Ways::of(&draft.plan());
+    let any = |random: &mut Random| asks::ask(random, &draft);
+    let (mut ask, mut chain) = ways.some_walk(random, &draft, any);
     if random.percent(12) {
         ask = asks::at_limits(random, &ask);
     }
@@ -61,35 +66,67 @@ fn some_long(random: &mut Random) -> Given {
     given
 }
 
-/// An ask and a chain: the first that come, or the first of many of which the
-/// chain is allowed; at times with the ask at the edge of what is allowed.
-fn some_walk(random: &mut Random, draft: &Draft) -> (Ask, Vec<u64>) {
-    let plan = draft.plan();
-    let definitions = Definitions::of(&plan);
-    let (network, links) = (Network::prepare(&plan), Links::of(&plan));
-    let longest = random.pick(&[3, 12, 12, 12, 63, 64, 200]);
-    let mut tries = random.pick(&[1, 1, 10, 10, 10]);
-    loop {
-        let ask = asks::ask(random, draft);
-        let chain = good_chains::chain(random, &definitions, &network, &ask, longest);
-        let walked = walked(&links, &ask, &chain);
-        tries -= 1;
-        if tries > 0 && walked == Err(Refusal::bare(CHAIN_NOT_ALLOWED)) {
-            continue;
-        }
-        let ask = match (random.below(8), walked) {
-            (0 | 1, _) => good_chains::exclude_later(random, &definitions, &ask, &chain),
-            (2..=5, Ok(figures)) => {
-                let chain = chain.iter().map(|&number| ContactNo(number)).collect();
-                asks::around(random, &ask, &Best { figures, chain }, draft)
-            }
-            _ => ask,
-        };
-        return (ask, chain);
-    }
+/// What chains are made by and judged by.
+pub struct Ways {
+    definitions: Definitions,
+    network: Network,
+    links: Links,
 }
 
-fn walked(links: &Links, ask: &Ask, chain: &[u64]) -> Result<Figures, Refusal> {
-    let numbers = chain.iter().map(|&number| ContactNo(number));
-    figures(links, &ask.check()?, numbers)
+impl Ways {
+    /// Those of a plan on which nothing is booked.
+    fn of(plan: &Plan) -> Self {
+        Self {
+            definitions: Definitions::of(plan),
+            network: Network::prepare(plan),
+            links: Links::of(plan),
+        }
+    }
+
+    /// Those of a plan with a valid book, for asks of a class.
+    pub fn booked(plan: &Plan, lent: &LentBook, class: u64) -> Self {
+        let book = Book::of_lent(&lent.words, &lent.numbers, plan).expect("a valid book");
+        Self {
+            definitions: Definitions::booked(plan, &lent.words, &lent.numbers, class),
+            network: Network::booked(plan, &book, Class(class)),
+            links: Links::booked(plan, &book, Class(class)),
+        }
+    }
+
+    /// An ask and a chain: the first that come, or the first of many of which
+    /// the chain is allowed; at times with the ask at the edge of what is
+    /// allowed.
+    pub fn some_walk(
+        &self,
+        random: &mut Random,
+        draft: &Draft,
+        any: impl Fn(&mut Random) -> Ask,
+    ) -> (Ask, Vec<u64>) {
+        let longest = random.pick(&[3, 12, 12, 12, 63, 64, 200]);
+        let mut tries = random.pick(&[1, 1, 10, 10, 10]);
+        let definitions = &self.definitions;
+        loop {
+            let ask = any(random);
+            let chain = good_chains::chain(random, definitions, &self.network, &ask, longest);
+            let walked = self.walked(&ask, &chain);
+            tries -= 1;
+            if tries > 0 && walked.is_err_and(|refusal| refusal.number != NOT_IN_TIME) {
+                continue;
+            }
+            let ask = match (random.below(8), walked) {
+                (0 | 1, _) => good_chains::exclude_later(random, definitions, &ask, &chain),
+                (2..=5, Ok(figures)) => {
+                    let chain = chain.iter().map(|&number| ContactNo(number)).collect();
+                    asks::around(random, &ask, &Best { figures, chain }, draft)
+                }
+                _ => ask,
+            };
+            return (ask, chain);
+        }
+    }
+
+    fn walked(&self, ask: &Ask, chain: &[u64]) -> Result<Figures, Refusal> {
+        let numbers = chain.iter().map(|&number| ContactNo(number));
+        figures(&self.links, &ask.check()?, numbers)
+    }
 }
