@@ -6,25 +6,31 @@
 --     Walked                                          the walk along the list has come to row j, and what it gathered
 --     walk-starts, walk-joins, walk-room              it begins; the range in row j is of the pair, and shares no more than is missing
 --     walk-found, walk-goes, walk-ends                nothing is missing any more; it goes on to the next row, and ends
---     walk-later                                      the next row stands behind
+--     next-later                                      the next row stands behind
+--     open-none, open-covers                          it begins where no row is, or at a range that covers all of the contact
+--     passed-first, pass-goes                         nothing is passed over before the first row of a slot; one row more is
+--     head-passed, head-none                          the same for the contact's pair; a pair that has no row has no light time
+--     begin-kept, begin-first                         the row that a walk begins at, by the test
+--     kept-passed, kept-more                          what was passed over before that row; and what is kept anew
 -- Assumes nothing.
 use mathlib.Core.Bool.{Bool, true, false, cond}
 use mathlib.Core.List.{List, [], _∷_}
 use mathlib.Core.Logic.{inl, inr, ⊎-elim}
 use mathlib.Core.Path.{_≡_, refl, sym, ap, ap₂, _∙_, subst}
 use Prim.Native.Nat.{ℕ, zero, suc, _+_, _-_, _≤_, _<_, min, max}
-use native.Mathlib.Nat.{sub-zero}
-use native.Mathlib.Decide.{decLt}
+use native.Mathlib.Nat.{sub-zero, lt-of-not-le}
+use native.Mathlib.Decide.{decLe, decLt, ℕ-discrete}
 use native.Mathlib.Numerals.{add-one}
 use native.Mathlib.Omega.{arith}
 use lib.Dec.{leb}
-use lib.ListN.{length, getD}
-use borrow.Author.Tests.{eq-eqb, ne-eqb, le-leb}
+use lib.ListN.{length, getD, set, length-set}
+use lib.Seq.{getD-set-same, getD-set-other}
+use borrow.Author.Tests.{eq-eqb, ne-eqb, le-leb, lt-leb}
 use Rattle.plan.specs.declared.rows.Contact.{Contact}
 use Rattle.plan.specs.declared.rows.Range.{Range}
 use Rattle.plan.specs.declared.rows.Span.{Span}
 use Rattle.plan.specs.declared.light.Light.the-variants.{Of, Unranged}
-use Rattle.plan.specs.Light.{Joins, sharedBy, sharedTime, largestLight, lightOf}
+use Rattle.plan.specs.Light.{Joins, joins, sharedBy, sharedTime, largestLight, lightOf}
 use Rattle.plan.specs.Plan.{GoodContact, GoodRange}
 use Rattle.plan.specs.Tables.{rangeAt, spanAt, rowsFrom}
 use Rattle.plan.specs.Verdict.{fails}
@@ -36,7 +42,7 @@ use Rattle.plan.proofs.Verdicts.{holds-true, answers-agree}
 use Rattle.lists.specs.Lists.{LeastFrom, Nexts, pairSlot, slotAt}
 use Rattle.lists.specs.Model.{IsPair}
 use Rattle.lists.proofs.ListLaws.{pair-slot, slot-pair, slot-below}
-use Rattle.service.specs.Model.{pairOf, RangesListed}
+use Rattle.service.specs.Model.{pairOf, RangesLinked, RangesListed, Passed, Kept}
 
 -- ---- one range
 
@@ -62,6 +68,15 @@ module _ (r : Range) (c : Contact) where
   shared-none : (Joins r c → ⊥) → sharedBy r c ≡ 0
   unfolding sharedBy
   shared-none n = rw (answers-agree (joins-tells r c) (fails n))
+
+  -- a range that ends by the contact's start shares nothing with it
+  shared-early : r .end .0 ≤ c .start .0 → sharedBy r c ≡ 0
+  unfolding sharedBy
+  shared-early h = go (joins r c)
+    where
+      go : (b : Bool) → cond b (min (r .end .0) (c .end .0) - max (r .start .0) (c .start .0)) 0 ≡ 0
+      go true = omega arith
+      go false = refl
 
 -- the larger light time, where at least one millisecond is shared
 abbrev larger : ℕ → ℕ → ℕ → ℕ
@@ -168,15 +183,19 @@ pub record Walked (ranges : List ℕ) (n : ℕ) (c : Contact) (missing light j :
   pub some-missing : 1 ≤ missing
   pub gathered : Gathered (rowsFrom (rangeAt ranges) 0 n) (rangesFrom ranges n j) c missing light
 
-module _ (ranges : List ℕ) (n : ℕ) (heads nexts : List ℕ) (c : Contact) (listed : RangesListed ranges n heads nexts) (good : GoodContact c) where
+pub next-later : (ranges : List ℕ) (n : ℕ) (nexts : List ℕ) → RangesLinked ranges n nexts → (j next : ℕ) → j < n → next ≡ getD nexts j 0 → j < next
+unfolding Nexts
+next-later ranges n nexts linked j next h e = omega (arith, linked .next j h .no-earlier)
+
+module _ (ranges : List ℕ) (n : ℕ) (nexts : List ℕ) (c : Contact) (linked : RangesLinked ranges n nexts) (good : GoodContact c) where
   abbrev all : List Range
   all = rowsFrom (rangeAt ranges) 0 n
 
   most : sharedTime all c ≤ c .end .0 - c .start .0
-  most = shared-within c all (listed .good) (listed .apart) (omega (arith, good .starts))
+  most = shared-within c all (linked .good) (linked .apart) (omega (arith, good .starts))
 
   good-at : (k : ℕ) → k < n → GoodRange (rangeAt ranges k)
-  good-at k h = each-row GoodRange (rangeAt ranges) n (listed .good) k h
+  good-at k h = each-row GoodRange (rangeAt ranges) n (linked .good) k h
 
   -- a range that has the slot of the contact's pair is of that pair
   slot-joins : (k : ℕ) → k < n → slotAt ranges k ≡ pairSlot (pairOf c) → Joins (rangeAt ranges k) c
@@ -213,15 +232,23 @@ module _ (ranges : List ℕ) (n : ℕ) (heads nexts : List ℕ) (c : Contact) (l
         (λ i from until. shared-none (rangeAt ranges i) c (λ x. l .least i from until (joins-slot i (omega (arith, l .no-later)) x))) g;
   }
 
-  pub walk-starts : (s : Span) → s ≡ pairOf c → (j : ℕ) → j ≡ getD heads (pairSlot s) 0 → Walked ranges n c (c .end .0 - c .start .0) 0 j
-  walk-starts s es j e =
-      let inside : pairSlot (pairOf c) < length heads = rw (listed .a-slot-each) (slot-below (pairOf c) (pair-nodes c good)) in
-      walk-on 0 j (c .end .0 - c .start .0) 0 (rw (e, es) (listed .linked .first (pairSlot (pairOf c)) inside)) (omega (arith, good .starts))
-      (subst (λ (rest : List Range). Gathered all rest c (c .end .0 - c .start .0) 0) (rows-all (rangeAt ranges) n) (gathered-none all c))
-
-  pub walk-later : (j next : ℕ) → j < n → next ≡ getD nexts j 0 → j < next
-  unfolding Nexts
-  walk-later j next h e = omega (arith, listed .linked .next j h .no-earlier)
+  -- the ranges passed over share nothing
+  pub walk-starts : (j : ℕ) → Passed ranges n (pairSlot (pairOf c)) (c .start .0) j → Walked ranges n c (c .end .0 - c .start .0) 0 j
+  walk-starts j p = record {
+    no-later = p .no-later;
+    has = p .has;
+    some-missing = omega (arith, good .starts);
+    gathered =
+        gathered-over (rangeAt ranges) c n all j 0 j (c .end .0 - c .start .0) 0 (omega arith) (p .no-later) (λ i _ until. shares-none i until)
+        (subst (λ (rest : List Range). Gathered all rest c (c .end .0 - c .start .0) 0) (rows-all (rangeAt ranges) n) (gathered-none all c));
+  }
+    where
+      shares-none : (i : ℕ) → i < j → sharedBy (rangeAt ranges i) c ≡ 0
+      shares-none i until =
+          elim (ℕ-discrete (slotAt ranges i) (pairSlot (pairOf c))) [
+            | yes e ↦ shared-early (rangeAt ranges i) c (p .past i until e)
+            | no e ↦ shared-none (rangeAt ranges i) c (λ x. e (joins-slot i (omega (arith, p .no-later)) x))
+          ]
 
   module _ (missing light j : ℕ) (so-far : Walked ranges n c missing light j) where
     pub walk-ends : n ≤ j → Unranged ≡ lightOf all c
@@ -260,4 +287,104 @@ module _ (ranges : List ℕ) (n : ℕ) (heads nexts : List ℕ) (c : Contact) (l
           pub walk-goes : (missing - shared ≡ 0 → ⊥) → (next : ℕ) → next ≡ getD nexts j 0 → Walked ranges n c (missing - shared) light′ next
           unfolding Nexts
           walk-goes some next en =
-              walk-on (j + 1) next (missing - shared) light′ (rw (en, sym (so-far .has h), add-one j) (listed .linked .next j h)) (omega arith) taken
+              walk-on (j + 1) next (missing - shared) light′ (rw (en, sym (so-far .has h), add-one j) (linked .next j h)) (omega arith) taken
+
+  -- the walk begins at row j
+  module _ (j : ℕ) (p : Passed ranges n (pairSlot (pairOf c)) (c .start .0) j) where
+    pub open-none : n ≤ j → Unranged ≡ lightOf all c
+    open-none = walk-ends (c .end .0 - c .start .0) 0 j (walk-starts j p)
+
+    -- its range, which is r, covers all of the contact
+    pub open-covers : j < n → (r : Range) → r ≡ rangeAt ranges j → r .start .0 ≤ c .start .0 → c .end .0 ≤ r .end .0
+        → Of (record { 0 = r .light .0 }) ≡ lightOf all c
+    open-covers h r er before after =
+        let shared : c .end .0 - c .start .0 ≡ sharedBy r c =
+        shared-is r c (walk-joins (c .end .0 - c .start .0) 0 j (walk-starts j p) h r er) (c .start .0) (c .end .0) (omega arith) (omega (arith, good .starts)) in
+        walk-found (c .end .0 - c .start .0) 0 j (walk-starts j p) h r er (c .end .0 - c .start .0) shared (r .light .0)
+        (larger-now (r .light .0) (c .end .0 - c .start .0) 0 (λ e. omega (arith, good .starts)) (omega arith)) (omega arith)
+
+-- ---- the ranges that are passed over
+
+-- nothing is passed over before the first row of a slot
+pub passed-first : (ranges : List ℕ) (n s t j : ℕ) → LeastFrom (slotAt ranges) 0 n s j → Passed ranges n s t j
+passed-first ranges n s t j l = record { no-later = l .no-later; has = l .has; past = λ k h e. absurd (l .least k (omega arith) h e) }
+
+-- what ends by a time ends by a later one
+passed-later : (ranges : List ℕ) (n s t u j : ℕ) → t ≤ u → Passed ranges n s t j → Passed ranges n s u j
+passed-later ranges n s t u j h p = record { no-later = p .no-later; has = p .has; past = λ k l e. omega (arith, p .past k l e) }
+
+module _ (ranges : List ℕ) (n : ℕ) (nexts : List ℕ) (linked : RangesLinked ranges n nexts) (s t j : ℕ) (so-far : Passed ranges n s t j) (h : j < n) where
+  -- row j ends by the time
+  pub pass-goes : (r : Range) → r ≡ rangeAt ranges j → r .end .0 ≤ t → (next : ℕ) → next ≡ getD nexts j 0 → Passed ranges n s t next
+  unfolding Nexts
+  pass-goes r er early next en = subst (Passed ranges n s t) (sym en) record {
+    no-later = l .no-later;
+    has = λ m. l .has m ∙ so-far .has h;
+    past = λ k m e. elim (decLt k j) [
+      | yes b ↦ so-far .past k b e
+      | no b ↦ elim (ℕ-discrete k j) [
+        | yes d ↦ subst (λ (i : ℕ). rangeAt ranges i .end .0 ≤ t) (sym d) (subst (λ (x : Range). x .end .0 ≤ t) er early)
+        | no d ↦ absurd (l .least k (omega arith) m (e ∙ sym (so-far .has h)))
+      ]
+    ];
+  }
+    where
+      l : LeastFrom (slotAt ranges) (suc j) n (slotAt ranges j) (getD nexts j 0)
+      l = linked .next j h
+
+-- ---- what is kept of a walk
+
+module _ (row time start head : ℕ) where
+  pub begin-kept : time ≤ start → row ≡ cond (leb time start) row head
+  begin-kept h = rw (le-leb time start h)
+
+  pub begin-first : start < time → head ≡ cond (leb time start) row head
+  begin-first h = rw (lt-leb time start h)
+
+module _ (ranges : List ℕ) (n : ℕ) (heads nexts : List ℕ) (c : Contact) (listed : RangesListed ranges n heads nexts) (good : GoodContact c) (s : Span) (es : s ≡ pairOf c)
+    (head : ℕ) (eh : head ≡ getD heads (pairSlot s) 0) where
+  least : LeastFrom (slotAt ranges) 0 n (pairSlot (pairOf c)) head
+  least =
+      let inside : pairSlot (pairOf c) < length heads = rw (listed .a-slot-each) (slot-below (pairOf c) (pair-nodes c good)) in
+      rw (eh, es) (listed .first (pairSlot (pairOf c)) inside)
+
+  pub head-passed : Passed ranges n (pairSlot (pairOf c)) (c .start .0) head
+  head-passed = passed-first ranges n (pairSlot (pairOf c)) (c .start .0) head least
+
+  pub head-none : n ≤ head → Unranged ≡ lightOf (rowsFrom (rangeAt ranges) 0 n) c
+  head-none h =
+      walk-ends ranges n nexts c (listed .rows) good (c .end .0 - c .start .0) 0 head (walk-starts ranges n nexts c (listed .rows) good head head-passed) h
+
+  module _ (h : head < n) (rows times : List ℕ) (kept : Kept ranges n rows times) where
+    -- the walk begins at the row kept, or at the first
+    pub kept-passed : (begin : ℕ) → begin ≡ cond (leb (getD times head 0) (c .start .0)) (getD rows head 0) head
+        → Passed ranges n (pairSlot (pairOf c)) (c .start .0) begin
+    kept-passed begin e = elim (decLe (getD times head 0) (c .start .0)) [
+      | yes b ↦ subst Begun (begin-kept (getD rows head 0) (getD times head 0) (c .start .0) head b ∙ sym e) (early b)
+      | no b ↦ subst Begun (begin-first (getD rows head 0) (getD times head 0) (c .start .0) head (lt-of-not-le b) ∙ sym e) head-passed
+    ]
+      where
+        Begun : ℕ → Type 0
+        Begun = Passed ranges n (pairSlot (pairOf c)) (c .start .0)
+
+        early : getD times head 0 ≤ c .start .0 → Passed ranges n (pairSlot (pairOf c)) (c .start .0) (getD rows head 0)
+        early b =
+            passed-later ranges n (pairSlot (pairOf c)) (getD times head 0) (c .start .0) (getD rows head 0) b
+            (subst (λ (m : ℕ). Passed ranges n m (getD times head 0) (getD rows head 0)) (least .has h) (kept .came head h (omega (arith, good .starts, good .ends))))
+
+    -- one row and its time are kept anew
+    pub kept-more : (row time : ℕ) → Passed ranges n (pairSlot (pairOf c)) time row → Kept ranges n (set rows head row) (set times head time)
+    kept-more row time p = record {
+      a-row-each = simp length-set (kept .a-row-each);
+      a-time-each = simp length-set (kept .a-time-each);
+      came = λ k m late.
+          elim (ℕ-discrete k head) [
+            | yes d ↦ subst (λ (i : ℕ). Passed ranges n (slotAt ranges i) (getD (set times head time) i 0) (getD (set rows head row) i 0)) (sym d) there
+            | no d ↦ rw (getD-set-other rows head k row 0 d, getD-set-other times head k time 0 d)
+                (kept .came k m (rw (getD-set-other times head k time 0 d) at late))
+          ];
+    }
+      where
+        there : Passed ranges n (slotAt ranges head) (getD (set times head time) head 0) (getD (set rows head row) head 0)
+        there =
+            rw (getD-set-same rows head row 0 (omega (arith, kept .a-row-each)), getD-set-same times head time 0 (omega (arith, kept .a-time-each)), least .has h) p

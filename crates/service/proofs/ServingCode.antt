@@ -3,6 +3,7 @@
 --     ranged-word, unranged-word   the word of a light time, and of none
 --     row-good, light-in-range     a row of the plan is a good contact, and its light time is in its range
 --     ranges-linkable, ranges-listed      the ranges of the plan can be linked, and then stand in lists
+--     kept-none, none-kept         nothing is kept of the walks yet
 --     Paired                       the pair beside a row says its light time and its volume
 --     stored-long                  a pair stored leaves the length
 --     paired-more, paired-all      one row more, and all rows: the tables hold the service
@@ -13,7 +14,7 @@ use mathlib.Core.Path.{_≡_, refl, sym, ap, _∙_, subst}
 use Prim.Native.Nat.{ℕ, _+_, _-_, _*_, _≤_, _<_}
 use native.Mathlib.Nat.{zero-add, sub-zero, mul-le-mul, eq-or-lt-of-le}
 use native.Mathlib.Omega.{arith}
-use lib.ListN.{length, getD, set, length-set, length-map}
+use lib.ListN.{length, getD, set, replicate, length-set, length-map, length-replicate, getD-replicate}
 use lib.Seq.{getD-set-same, getD-set-other}
 use Rattle.units.specs.Limits.{lastTime, mostRate, mostLight, mostRanges}
 use Rattle.units.specs.declared.Millis.{Millis}
@@ -29,7 +30,7 @@ use Rattle.plan.proofs.Lent.{ranges-counted}
 use Rattle.plan.proofs.RowList.{length-rows, getD-rows}
 use Rattle.lists.specs.Lists.{Linked, slotAt}
 use Rattle.lists.specs.Model.{slots, mostRows, Linkable}
-use Rattle.service.specs.Model.{RangesListed}
+use Rattle.service.specs.Model.{RangesListed, Kept, NoneKept}
 use Rattle.service.specs.Service.{blank, volume, leftsFrom, serviceOf, unused, LightGood}
 use Rattle.service.specs.Tables.{pairWords, unranged, lightWord, lightAt, leftAt, served}
 use Rattle.service.proofs.PairsCode.{word-unranged, word-ranged}
@@ -91,13 +92,31 @@ module _ (contacts : List ℕ) (m : ℕ) (ranges : List ℕ) (n : ℕ) (plan : I
       → RangesListed ranges n heads′ nexts′
   unfolding planOf
   ranges-listed heads′ nexts′ linked eh en = record {
-    lent = plan .ranges-lent;
-    good = plan .valid .ranges-good;
-    apart = plan .valid .ranges-apart;
+    rows =
+        record {
+          lent = plan .ranges-lent;
+          good = plan .valid .ranges-good;
+          apart = plan .valid .ranges-apart;
+          a-row-each = omega (arith, few, en);
+          next = linked .next;
+        };
     a-slot-each = eh ∙ slot-each;
-    a-row-each = omega (arith, few, en);
-    linked = linked;
+    first = linked .first;
   }
+
+  pub kept-none : (rows times : List ℕ) → NoneKept rows times → Kept ranges n rows times
+  kept-none rows times none = record {
+    a-row-each = omega (arith, few, none .a-row-each);
+    a-time-each = omega (arith, few, none .a-time-each);
+    came = λ h m late. absurd (omega (arith, none .never h (omega (arith, few))));
+  }
+
+pub none-kept : (v w : ℕ) → lastTime < w → NoneKept (replicate mostRows v) (replicate mostRows w)
+none-kept v w late = record {
+  a-row-each = rw (length-replicate {A = ℕ} mostRows v) (omega arith);
+  a-time-each = rw (length-replicate {A = ℕ} mostRows w) (omega arith);
+  never = λ h m. rw (getD-replicate mostRows h w 0 m) late;
+}
 
 -- the pair beside row k says its light time and its volume
 pub record Paired (contacts : List ℕ) (rs : List Range) (pairs : List ℕ) (k : ℕ) : Type 0 where

@@ -1,17 +1,21 @@
 -- What the contracts of single steps speak of. A reader of the promises may skip it.
 --     pairOf            the pair and the time of a contact, the lower node first, as a range has them
---     RangesListed      n ranges of a plan, and the lists of them by their pairs
+--     RangesLinked      n ranges of a plan, and behind each the next one of its pair
+--     RangesListed      the same, with the first one of each pair
+--     Passed            the ranges of a list before a row end by a time
+--     Kept, NoneKept    what is kept of the walks along the lists: rows and times; nothing yet
 -- Assumes nothing.
 use mathlib.Core.List.{List, map}
 use mathlib.Core.Path.{_≡_}
-use Prim.Native.Nat.{ℕ, _*_, _≤_, min, max}
-use lib.ListN.{length}
+use Prim.Native.Nat.{ℕ, _*_, _≤_, _<_, min, max}
+use lib.ListN.{length, getD}
+use Rattle.units.specs.Limits.{lastTime}
 use Rattle.plan.specs.declared.rows.Contact.{Contact}
 use Rattle.plan.specs.declared.rows.Span.{Span}
 use Rattle.plan.specs.Plan.{GoodRange, Overlap, Each, NoTwo, rangeSpan}
 use Rattle.plan.specs.Tables.{words, rangeAt, rowsFrom}
-use Rattle.lists.specs.Lists.{Linked, slotAt}
-use Rattle.lists.specs.Model.{slots}
+use Rattle.lists.specs.Lists.{LeastFrom, Nexts, slotAt}
+use Rattle.lists.specs.Model.{slots, mostRows}
 
 abbrev pub pairOf : Contact → Span
 pairOf c = record {
@@ -21,10 +25,31 @@ pairOf c = record {
   other = record { 0 = max (c .from .0) (c .to .0) };
 }
 
-pub record RangesListed (ranges : List ℕ) (n : ℕ) (heads nexts : List ℕ) : Type 0 where
+pub record RangesLinked (ranges : List ℕ) (n : ℕ) (nexts : List ℕ) : Type 0 where
   pub lent : n * words ≤ length ranges
   pub good : Each GoodRange (rowsFrom (rangeAt ranges) 0 n)
   pub apart : NoTwo Overlap (map rangeSpan (rowsFrom (rangeAt ranges) 0 n))
-  pub a-slot-each : length heads ≡ slots
   pub a-row-each : n ≤ length nexts
-  pub linked : Linked (slotAt ranges) n heads nexts
+  pub next : Nexts (slotAt ranges) n nexts
+
+pub record RangesListed (ranges : List ℕ) (n : ℕ) (heads nexts : List ℕ) : Type 0 where
+  pub rows : RangesLinked ranges n nexts
+  pub a-slot-each : length heads ≡ slots
+  pub first : (s : ℕ) → s < length heads → LeastFrom (slotAt ranges) 0 n s (getD heads s 0)
+
+-- the walk along the list of slot s has come to row j, where n is the end, and every range of the list before it ends by the time t
+pub record Passed (ranges : List ℕ) (n s t j : ℕ) : Type 0 where
+  pub no-later : j ≤ n
+  pub has : j < n → slotAt ranges j ≡ s
+  pub past : (k : ℕ) → k < j → slotAt ranges k ≡ s → rangeAt ranges k .end .0 ≤ t
+
+-- beside row h stand a row that the walk along its list came to, and the time by which the ranges before that one end; or a time that never comes
+pub record Kept (ranges : List ℕ) (n : ℕ) (rows times : List ℕ) : Type 0 where
+  pub a-row-each : n ≤ length rows
+  pub a-time-each : n ≤ length times
+  pub came : (h : ℕ) → h < n → getD times h 0 ≤ lastTime → Passed ranges n (slotAt ranges h) (getD times h 0) (getD rows h 0)
+
+pub record NoneKept (rows times : List ℕ) : Type 0 where
+  pub a-row-each : mostRows ≤ length rows
+  pub a-time-each : mostRows ≤ length times
+  pub never : (h : ℕ) → h < mostRows → lastTime < getD times h 0

@@ -1,5 +1,5 @@
 // A plan made ready to serve: each contact's light time and its volume, worked out once.
-use crate::lights::light_along;
+use crate::lights::light_kept;
 use crate::pairs::PAIR_WORDS;
 use crate::pairs::UNRANGED;
 use lists::BLANK;
@@ -15,9 +15,13 @@ ghost use lib.ListN.{length, set};
 ghost use Rattle.plan.specs.Plan.{GoodContact};
 ghost use Rattle.plan.specs.Tables.{IsPlan, planOf};
 ghost use Rattle.lists.specs.Model.{slots, mostRows};
-ghost use Rattle.service.specs.Model.{RangesListed};
+ghost use Rattle.service.specs.Model.{RangesListed, Kept, NoneKept};
 ghost use Rattle.service.specs.Service.{volume, serviceOf, unused, LightGood};
 ghost use Rattle.service.specs.Tables.{pairWords, lightWord, served};
+
+// A time that comes after every contact: nothing is kept there yet. Its bytes are not all the same, so
+// that an array of it is filled word by word and not byte by byte.
+const NEVER: u64 = 18_446_744_073_709_551_614;
 
 // The bytes that the contact carries in all.
 fn volume_of(c: Contact) -> u64
@@ -56,15 +60,17 @@ fn serve_along(
     range_count: usize,
     heads: &[u16],
     nexts: &[u16],
+    kept_rows: &mut [u64],
+    kept_times: &mut [u64],
     pairs: &mut [u64],
 )
-    requires { ⌜ IsPlan (now contacts) «contact_count» (now ranges) «range_count» × RangesListed (now ranges) «range_count» (now heads) (now nexts) × («contact_count» * pairWords ≤ length (now pairs)) ⌝ }
+    requires { ⌜ IsPlan (now contacts) «contact_count» (now ranges) «range_count» × RangesListed (now ranges) «range_count» (now heads) (now nexts) × Kept (now ranges) «range_count» (now «kept_rows») (now «kept_times») × («contact_count» * pairWords ≤ length (now pairs)) ⌝ }
     ensures { λ _. ⌜ (served (now (contacts .entry)) «contact_count» (now (pairs .exit)) ≡ serviceOf (planOf (now (contacts .entry)) «contact_count» (now (ranges .entry)) «range_count») unused) × (length (now (pairs .exit)) ≡ length (now (pairs .entry))) ⌝ }
 {
     let mut k: usize = 0;
     while k < contact_count {
         let c = contact_row(contacts, k);
-        let light = light_along(ranges, range_count, heads, nexts, c);
+        let light = light_kept(ranges, range_count, heads, nexts, kept_rows, kept_times, c);
         let word = word_of(light);
         let left = volume_of(c);
         put_pair(pairs, k, word, left);
@@ -80,9 +86,11 @@ fn serve_in(
     range_count: usize,
     heads: &mut [u16],
     nexts: &mut [u16],
+    kept_rows: &mut [u64],
+    kept_times: &mut [u64],
     pairs: &mut [u64],
 )
-    requires { ⌜ IsPlan (now contacts) «contact_count» (now ranges) «range_count» × (length (now heads) ≡ slots) × (mostRows ≤ length (now nexts)) × («contact_count» * pairWords ≤ length (now pairs)) ⌝ }
+    requires { ⌜ IsPlan (now contacts) «contact_count» (now ranges) «range_count» × (length (now heads) ≡ slots) × (mostRows ≤ length (now nexts)) × NoneKept (now «kept_rows») (now «kept_times») × («contact_count» * pairWords ≤ length (now pairs)) ⌝ }
     ensures { λ _. ⌜ (served (now (contacts .entry)) «contact_count» (now (pairs .exit)) ≡ serviceOf (planOf (now (contacts .entry)) «contact_count» (now (ranges .entry)) «range_count») unused) × (length (now (pairs .exit)) ≡ length (now (pairs .entry))) ⌝ }
 {
     link(ranges, range_count, heads, nexts);
@@ -93,12 +101,14 @@ fn serve_in(
         range_count,
         heads,
         nexts,
+        kept_rows,
+        kept_times,
         pairs,
     );
 }
 
 // Fills the pairs with the plan as it serves an ask, where nothing is used. The lists have words of
-// their own.
+// their own, and so has what is kept along them: nothing yet.
 pub fn serve(
     contacts: &[u64],
     contact_count: usize,
@@ -111,6 +121,8 @@ pub fn serve(
 {
     let mut heads = [BLANK; SLOTS];
     let mut nexts = [BLANK; MOST_ROWS];
+    let mut kept_rows = [NEVER; MOST_ROWS];
+    let mut kept_times = [NEVER; MOST_ROWS];
     serve_in(
         contacts,
         contact_count,
@@ -118,6 +130,8 @@ pub fn serve(
         range_count,
         &mut heads,
         &mut nexts,
+        &mut kept_rows,
+        &mut kept_times,
         pairs,
     );
 }

@@ -1,45 +1,35 @@
 -- `service::lights::light_along` meets its contract. The loop's invariant: the walk along the list of the contact's pair has come to row j; the time missing
 -- and the largest light time so far, with those of the ranges still to come, are those of all ranges.
 -- Assumes nothing.
-use mathlib.Core.Path.{sym, subst}
 use Prim.Native.Nat.{_-_}
 use native.Mathlib.Omega.{arith}
 use borrow.Author.Needs.{needs}
-use Rattle.lists.specs.Model.{IsPair}
-use Rattle.service.proofs.LightsCode.{pair-nodes, Walked, walk-starts, walk-joins, walk-room, walk-found, walk-goes, walk-ends, walk-later}
+use Rattle.service.proofs.LightsCode.{Walked, walk-starts, walk-joins, walk-room, walk-found, walk-goes, walk-ends, next-later}
 use Rattle.service.proofs.lights.light_along.Statement.{statement}
 use Rattle.service.proofs.lights.light_along.Tie as tie
 
 abbrev Inv-loop : tie.InvT-loop
-Inv-loop ranges range-count heads nexts c missing₀ light₀ j₀ missing light j = Walked ranges range-count c missing light j
+Inv-loop ranges range-count nexts begin c missing₀ light₀ j₀ missing light j = Walked ranges range-count c missing light j
 
 abbrev μ-loop : tie.MeasureT-loop
-μ-loop ranges range-count heads nexts c missing₀ light₀ j₀ missing light j = range-count - j
+μ-loop ranges range-count nexts begin c missing₀ light₀ j₀ missing light j = range-count - j
 
 sub-missing : tie.Need-sub-missing Inv-loop μ-loop
-sub-missing c = omega (arith, c .before .before .before .before .pre .1 .starts)
-
-pair-of-requires : tie.Need-pair-of-requires Inv-loop μ-loop
-pair-of-requires c κs = search needs
-
-head-of-requires : tie.Need-head-of-requires Inv-loop μ-loop
-head-of-requires c κs =
-    let pre = c .before .before .before .before .before .pre in
-    (subst IsPair (sym (c .pair-of .ensures)) (pair-nodes _ (pre .1)), pre .0 .a-slot-each)
+sub-missing c = omega (arith, c .before .before .before .pre .1 .starts)
 
 loop-holds : tie.Need-loop-holds Inv-loop μ-loop
 loop-holds c =
-    let pre = c .before .before .before .before .before .before .pre in
-    walk-starts _ _ _ _ _ (pre .0) (pre .1) _ (c .before .pair-of .ensures) _ (c .head-of .ensures)
+    let pre = c .before .before .before .pre in
+    walk-starts _ _ _ _ (pre .0) (pre .1) _ (pre .2)
 
 range-row-requires : tie.Need-range-row-requires Inv-loop μ-loop
-range-row-requires c κs = omega (arith, c .before .before .before .before .before .before .before .before .pre .0 .lent)
+range-row-requires c κs = omega (arith, c .before .before .before .before .before .pre .0 .lent)
 
 shared-by-requires : tie.Need-shared-by-requires Inv-loop μ-loop
 shared-by-requires c κs =
     let at-loop = c .before .before in
-    let pre = at-loop .before .before .before .before .before .before .before .pre in
-    walk-joins _ _ _ _ _ (pre .0) (pre .1) _ _ _ (at-loop .loop .inv) (c .before .loop-test .taken) _ (c .range-row .ensures)
+    let pre = at-loop .before .before .before .before .pre in
+    walk-joins _ _ _ _ (pre .0) (pre .1) _ _ _ (at-loop .loop .inv) (c .before .loop-test .taken) _ (c .range-row .ensures)
 
 largest-with-requires : tie.Need-largest-with-requires Inv-loop μ-loop
 largest-with-requires c κs = search needs
@@ -48,41 +38,41 @@ sub-missing-2 : tie.Need-sub-missing-2 Inv-loop μ-loop
 sub-missing-2 c =
     let at-row = c .before .before in
     let at-loop = at-row .before .before in
-    let pre = at-loop .before .before .before .before .before .before .before .pre in
-    walk-room _ _ _ _ _ (pre .0) (pre .1) _ _ _ (at-loop .loop .inv) (at-row .before .loop-test .taken) _ (at-row .range-row .ensures) _
+    let pre = at-loop .before .before .before .before .pre in
+    walk-room _ _ _ _ (pre .0) (pre .1) _ _ _ (at-loop .loop .inv) (at-row .before .loop-test .taken) _ (at-row .range-row .ensures) _
     (c .before .shared-by .ensures)
 
 returns : tie.Need-returns Inv-loop μ-loop
 returns c =
     let at-row = c .before .before .before in
     let at-loop = at-row .before .before in
-    let pre = at-loop .before .before .before .before .before .before .before .pre in
-    walk-found _ _ _ _ _ (pre .0) (pre .1) _ _ _ (at-loop .loop .inv) (at-row .before .loop-test .taken) _ (at-row .range-row .ensures) _
+    let pre = at-loop .before .before .before .before .pre in
+    walk-found _ _ _ _ (pre .0) (pre .1) _ _ _ (at-loop .loop .inv) (at-row .before .loop-test .taken) _ (at-row .range-row .ensures) _
     (c .before .before .shared-by .ensures) _ (c .before .largest-with .ensures) (c .if1 .taken)
 
 next-of-requires : tie.Need-next-of-requires Inv-loop μ-loop
 next-of-requires c κs =
     let at-loop = c .before .before .before .before .before in
-    omega (arith, at-loop .before .before .before .before .before .before .before .pre .0 .a-row-each)
+    omega (arith, at-loop .before .before .before .before .pre .0 .a-row-each)
 
 loop-less : tie.Need-loop-less Inv-loop μ-loop
 loop-less c =
     let at-test = c .before .before .before .before .before in
-    let pre = at-test .before .before .before .before .before .before .before .before .pre in
-    omega (arith, walk-later _ _ _ _ _ (pre .0) (pre .1) _ _ (at-test .loop-test .taken) (c .next-of .ensures))
+    let pre = at-test .before .before .before .before .before .pre in
+    omega (arith, next-later _ _ _ (pre .0) _ _ (at-test .loop-test .taken) (c .next-of .ensures))
 
 loop-again : tie.Need-loop-again Inv-loop μ-loop
 loop-again c =
     let at-row = c .before .before .before .before in
     let at-loop = at-row .before .before in
-    let pre = at-loop .before .before .before .before .before .before .before .pre in
-    walk-goes _ _ _ _ _ (pre .0) (pre .1) _ _ _ (at-loop .loop .inv) (at-row .before .loop-test .taken) _ (at-row .range-row .ensures) _
+    let pre = at-loop .before .before .before .before .pre in
+    walk-goes _ _ _ _ (pre .0) (pre .1) _ _ _ (at-loop .loop .inv) (at-row .before .loop-test .taken) _ (at-row .range-row .ensures) _
     (c .before .before .before .shared-by .ensures) _ (c .before .before .largest-with .ensures) (c .before .if1 .left) _ (c .next-of .ensures)
 
 returns-2 : tie.Need-returns-2 Inv-loop μ-loop
 returns-2 c =
-    let pre = c .before .before .before .before .before .before .before .before .pre in
-    walk-ends _ _ _ _ _ (pre .0) (pre .1) _ _ _ (c .before .loop .inv) (c .loop-test .left)
+    let pre = c .before .before .before .before .before .pre in
+    walk-ends _ _ _ _ (pre .0) (pre .1) _ _ _ (c .before .loop .inv) (c .loop-test .left)
 
 pub light-along-spec : {M : Type 1} → statement M
 light-along-spec =
@@ -91,8 +81,6 @@ light-along-spec =
     Inv-loop
     μ-loop
     sub-missing
-    pair-of-requires
-    head-of-requires
     loop-holds
     range-row-requires
     shared-by-requires

@@ -2,7 +2,9 @@
 -- Assumes nothing.
 use native.Mathlib.Omega.{arith}
 use borrow.Author.Needs.{needs}
+use Rattle.units.specs.Limits.{lastTime}
 use Rattle.lists.specs.Model.{slots, mostRows}
+use Rattle.service.proofs.ServingCode.{none-kept}
 use Rattle.service.proofs.serving.serve.Statement.{statement}
 use Rattle.service.proofs.serving.serve.Tie as tie
 
@@ -12,11 +14,17 @@ slice-aggregate-serve-in c = search needs
 slice-aggregate-serve-in-2 : tie.Need-slice-aggregate-serve-in-2
 slice-aggregate-serve-in-2 c = search needs
 
+slice-aggregate-serve-in-3 : tie.Need-slice-aggregate-serve-in-3
+slice-aggregate-serve-in-3 c = search needs
+
+slice-aggregate-serve-in-4 : tie.Need-slice-aggregate-serve-in-4
+slice-aggregate-serve-in-4 c = search needs
+
 serve-in-requires : tie.Need-serve-in-requires
-unfolding slots mostRows
+unfolding slots mostRows lastTime
 serve-in-requires c κs =
-    let pre = c .before .before .before .before .before .before .pre in
-    (pre .0, omega arith, omega arith, pre .1)
+    let pre = c .before .before .before .before .before .before .before .before .pre in
+    (pre .0, omega arith, omega arith, none-kept _ _ (omega arith), pre .1)
 
 same-length : tie.Need-same-length
 same-length c = search needs
@@ -30,6 +38,8 @@ serve-spec =
     (tie.spec
     slice-aggregate-serve-in
     slice-aggregate-serve-in-2
+    slice-aggregate-serve-in-3
+    slice-aggregate-serve-in-4
     serve-in-requires
     same-length
     returns)
