@@ -28,7 +28,7 @@ use Rattle.layers.specs.Bridge.{networkOf}
 use Rattle.layers.specs.Words.{neverWord, whenWord, TimeWord, rowOf, layerOf, Layered, Older, blankWords, Filled}
 use Rattle.layers.proofs.RowLaws.{when-never, when-time, getD-row, row-set-other, length-layer-row, getD-layer, layer-set, time-set}
 
-nodes-counted : (p : Service) (ask : Ask) → networkOf p ask .nodes ≡ mostNodes
+pub nodes-counted : (p : Service) (ask : Ask) → networkOf p ask .nodes ≡ mostNodes
 unfolding networkOf
 nodes-counted p ask = refl
 
@@ -95,12 +95,17 @@ rows-settled N words k h r same =
 pub rows-all : (N : Network) (words : List ℕ) (k : ℕ) → k < mostNodes → k ≡ mostNodes - 1 → RowsTo N words k → Filled N words k
 rows-all N words k h e r = record { most = h; long = r .long; timed = r .timed; rows = r .rows; settled = ap (layer N) (sym e) }
 
-pub older-kept : (N : Network) (entry exit : List ℕ) (old k : ℕ) {next : List When} → Layered entry exit k next → Older N entry old k → Older N exit old k
-older-kept N entry exit old k l o = record {
-  inside = subst (λ (n : ℕ). (old + 1) * mostNodes ≤ n) (sym (l .long)) (o .inside);
-  apart = o .apart;
-  tried = λ c i. rw (layer-kept entry exit k old l (o .apart), layer-this entry exit k l) (o .tried c i);
-}
+pub older-kept : (N : Network) (entry exit : List ℕ) (old k : ℕ) → length exit ≡ length entry → ((j : ℕ) → (j ≡ suc k → ⊥) → rowOf exit j ≡ rowOf entry j)
+    → Older N entry old k → Older N exit old k
+unfolding layerOf
+older-kept N entry exit old k long kept o =
+    let before : layerOf exit old ≡ layerOf entry old = ap (map whenWord) (kept old (o .apart)) in
+    let this : layerOf exit k ≡ layerOf entry k = ap (map whenWord) (kept k (λ e. absurd (omega arith))) in
+    record {
+      inside = subst (λ (n : ℕ). (old + 1) * mostNodes ≤ n) (sym long) (o .inside);
+      apart = o .apart;
+      tried = λ c i. rw (before, this) (o .tried c i);
+    }
 
 pub older-next : (p : Service) (ask : Ask) → Laws (networkOf p ask) → (words exit : List ℕ) (k m : ℕ) → networkOf p ask .contacts ≡ m
     → (k + 2) * mostNodes ≤ length words → Layered words exit k (relaxed (networkOf p ask) (layerOf words k) m) → Older (networkOf p ask) exit k (k + 1)

@@ -1,12 +1,12 @@
 -- What the code that fills the layers knows of them.
 --     ends-are                        the ends of a contact that was read from its row
+--     ready-time                      the word of the node that it is from is a time word
 --     tried-earlier, tried-later      one contact tried, where it reaches its node earlier, and where not
---     tried-late, tried-before        one that need not be tried: it brings nothing earlier, or was tried before
---     none-tried, more-tried, tried-lower      the contacts tried so far
+--     tried-late                      one that need not be tried: it brings nothing earlier
 -- Assumes nothing.
-use mathlib.Core.List.{List, map}
+use mathlib.Core.List.{List}
 use mathlib.Core.Path.{_≡_, refl, sym, ap, ap₂, _∙_, subst}
-use Prim.Native.Nat.{ℕ, suc, _+_, _-_, _*_, _≤_, _<_}
+use Prim.Native.Nat.{ℕ, _+_, _-_, _*_, _≤_, _<_}
 use native.Mathlib.Numerals.{add-one}
 use native.Mathlib.Omega.{arith}
 use lib.ListN.{length, getD, set, length-set}
@@ -18,14 +18,12 @@ use Rattle.plan.specs.Tables.{contactAt}
 use Rattle.service.specs.Service.{Service, contactOf, InPlan}
 use Rattle.service.specs.Tables.{served, IsService}
 use Rattle.timing.proofs.ChainCode.{contact-lent, named-good}
-use Rattle.network.specs.Model.{behind, earlier, relax, relaxed}
-use Rattle.network.specs.Network.{When, never, NotLater, Network}
-use Rattle.network.proofs.Relaxed.{relaxed-not-later, relax-kept}
-use Rattle.network.proofs.Whens.{not-later-trans}
+use Rattle.network.specs.Model.{behind, earlier, relax}
+use Rattle.network.specs.Network.{never, NotLater, Network}
+use Rattle.network.proofs.Relaxed.{relax-kept}
 use Rattle.layers.specs.Bridge.{networkOf}
-use Rattle.layers.specs.Words.{neverWord, whenWord, TimeWord, rowOf, layerOf, Layered, Older, AreEnds}
+use Rattle.layers.specs.Words.{whenWord, TimeWord, rowOf, layerOf, Layered, AreEnds}
 use Rattle.layers.proofs.ArriveCode.{Arrives}
-use Rattle.layers.proofs.NetworkLaws.{in-plan-contact}
 use Rattle.layers.proofs.RowLaws.{when-lower, when-not-later, time-most, row-set-other, getD-layer, layer-set, time-set, time-row}
 
 pub ends-are : (contacts : List ℕ) (m : ℕ) (pairs : List ℕ) (c : ℕ) → IsService contacts m pairs → InPlan (served contacts m pairs) c
@@ -41,8 +39,15 @@ ends-are contacts m pairs c plan named x ex =
     }
 
 -- a word read from a row is a time word
-pub read-time : (words : List ℕ) (k v w : ℕ) → Each TimeWord words → (k + 1) * mostNodes ≤ length words → v < mostNodes → w ≡ getD (rowOf words k) v 0 → TimeWord w
+read-time : (words : List ℕ) (k v w : ℕ) → Each TimeWord words → (k + 1) * mostNodes ≤ length words → v < mostNodes → w ≡ getD (rowOf words k) v 0 → TimeWord w
 read-time words k v w timed inside h e = subst TimeWord (sym e) (time-row words k v timed inside h)
+
+-- so is the word of the node that a contact is from
+pub ready-time : (p : Service) (ask : Ask) (words : List ℕ) (k c from to ready : ℕ) → Each TimeWord words → (k + 2) * mostNodes ≤ length words
+    → AreEnds p c from to → ready ≡ getD (rowOf words k) (networkOf p ask .from c) 0 → TimeWord ready
+unfolding networkOf
+ready-time p ask words k c from to ready timed inside ends e =
+    read-time words k (networkOf p ask .from c) ready timed (omega arith) (rw (ends .from-is) at (ends .from-node)) e
 
 -- a contact that brings nothing earlier leaves the words
 kept-late : (N : Network) (words : List ℕ) (k c : ℕ) → Each TimeWord words
@@ -57,16 +62,16 @@ kept-late N words k c timed late = record {
 
 -- a row's word of the node that a contact is from, and of the node that it is to
 module _ (p : Service) (ask : Ask) (words : List ℕ) (k c from to : ℕ) (inside : (k + 1) * mostNodes ≤ length words) (ends : AreEnds p c from to) (w : ℕ) where
-  from-word : w ≡ getD (rowOf words k) from 0 → getD (layerOf words k) (networkOf p ask .from c) never ≡ whenWord w
+  from-word : w ≡ getD (rowOf words k) (networkOf p ask .from c) 0 → getD (layerOf words k) (networkOf p ask .from c) never ≡ whenWord w
   unfolding networkOf
-  from-word e = rw (← (ends .from-is), e) (getD-layer words k from inside (ends .from-node))
+  from-word e = rw e (getD-layer words k (networkOf p ask .from c) inside (rw (ends .from-is) at (ends .from-node)))
 
   to-word : w ≡ getD (rowOf words k) to 0 → getD (layerOf words k) (networkOf p ask .to c) never ≡ whenWord w
   unfolding networkOf
   to-word e = rw (← (ends .to-is), e) (getD-layer words k to inside (ends .to-node))
 
 module _ (p : Service) (ask : Ask) (words : List ℕ) (k c from to : ℕ) (inside : (k + 2) * mostNodes ≤ length words) (timed : Each TimeWord words)
-    (ends : AreEnds p c from to) (ready there : ℕ) (er : ready ≡ getD (rowOf words k) from 0) (eh : there ≡ getD (rowOf words (k + 1)) to 0) where
+    (ends : AreEnds p c from to) (ready there : ℕ) (er : ready ≡ getD (rowOf words k) (networkOf p ask .from c) 0) (eh : there ≡ getD (rowOf words (k + 1)) to 0) where
   ready-is : getD (layerOf words k) (networkOf p ask .from c) never ≡ whenWord ready
   ready-is = from-word p ask words k c from to (omega arith) ends ready er
 
@@ -98,43 +103,3 @@ module _ (p : Service) (ask : Ask) (words : List ℕ) (k c from to : ℕ) (insid
           kept = λ j l. row-set-other words j (k + 1) to arrival (λ q. l (q ∙ add-one k)) (ends .to-node);
           is = ap (layerOf _) (sym (add-one k)) ∙ layer-set words (k + 1) to arrival (ends .to-node) ∙ sym (relax-is h);
         })
-
--- a contact tried before from where its first node is: row `old` has the node as row k has it
-pub tried-before : (p : Service) (ask : Ask) (words : List ℕ) (old k c from to : ℕ) → (k + 2) * mostNodes ≤ length words → Each TimeWord words
-    → InPlan p c → AreEnds p c from to → Older (networkOf p ask) words old k
-    → ((v : ℕ) → NotLater (getD (layerOf words (k + 1)) v never) (getD (layerOf words k) v never)) → (before ready : ℕ)
-    → before ≡ getD (rowOf words old) from 0 → ready ≡ getD (rowOf words k) from 0 → before ≡ ready
-    → Layered words words k (relax (networkOf p ask) (layerOf words k) c (layerOf words (k + 1)))
-tried-before p ask words old k c from to inside timed named ends older lower before ready eb er same =
-    let from-old = from-word p ask words old c from to (older .inside) ends before eb in
-    let from-now = from-word p ask words k c from to (omega arith) ends ready er in
-    kept-late (networkOf p ask) words k c timed
-    (not-later-trans (lower _) (older .tried c (in-plan-contact ask named) (from-old ∙ ap whenWord same ∙ sym from-now)))
-
-module _ (p : Service) (ask : Ask) (entry : List ℕ) (k : ℕ) where
-  pub none-tried : Each TimeWord entry → layerOf entry (k + 1) ≡ layerOf entry k → Layered entry entry k (relaxed (networkOf p ask) (layerOf entry k) 0)
-  unfolding relaxed
-  none-tried timed e = record { long = refl; timed = timed; kept = λ j l. refl; is = ap (layerOf entry) (sym (add-one k)) ∙ e }
-
-  -- no entry of row k + 1 is later than that of row k
-  pub tried-lower : (words : List ℕ) (tried : ℕ) → Layered entry words k (relaxed (networkOf p ask) (layerOf entry k) tried)
-      → (v : ℕ) → NotLater (getD (layerOf words (k + 1)) v never) (getD (layerOf words k) v never)
-  unfolding layerOf
-  tried-lower words tried before v =
-      let same : layerOf words k ≡ layerOf entry k = ap (map whenWord) (before .kept k (λ e. absurd (omega arith))) in
-      rw (add-one k, before .is, same) (relaxed-not-later (networkOf p ask) (layerOf entry k) tried v)
-
-  pub more-tried : (words exit : List ℕ) (tried : ℕ) → Layered entry words k (relaxed (networkOf p ask) (layerOf entry k) tried)
-      → Layered words exit k (relax (networkOf p ask) (layerOf words k) (tried + 1) (layerOf words (k + 1)))
-      → Layered entry exit k (relaxed (networkOf p ask) (layerOf entry k) (tried + 1))
-  unfolding relaxed layerOf
-  more-tried words exit tried before step =
-      let same : layerOf words k ≡ layerOf entry k = ap (map whenWord) (before .kept k (λ e. absurd (omega arith))) in
-      record {
-        long = step .long ∙ before .long;
-        timed = step .timed;
-        kept = λ j l. step .kept j l ∙ before .kept j l;
-        is =
-            step .is
-            ∙ rw (add-one k, add-one tried) (ap₂ (λ (a b : List When). relax (networkOf p ask) a (suc tried) b) same (before .is));
-      }

@@ -6,3 +6,4 @@ pub mod FillCode
 mod LayerCode
 pub mod NetworkLaws
 pub mod RowLaws
+mod TriedCode

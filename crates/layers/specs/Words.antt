@@ -2,6 +2,8 @@
 --     neverWord, whenWord      never as a word, and what a word says
 --     rowOf, layerOf           row k of the words, and the layer that it holds
 --     Layered, Filled          what one step leaves, and what all of them leave
+--     Listed                   the contacts in lists, by the node that they are from
+--     Tried                    what trying some of the contacts leaves
 --     Older                    an earlier row, by which a contact is known to have been tried before
 -- Assumes nothing.
 use mathlib.Core.Bool.{Bool, true, false}
@@ -11,10 +13,12 @@ use mathlib.Core.Path.{_≡_}
 use Prim.Native.Nat.{ℕ, suc, _+_, _-_, _*_, _≤_, _<_}
 use lib.Dec.{eqb}
 use lib.ListN.{length, getD, take, drop, replicate}
+use Rattle.lists.specs.Leaving.{fromAt}
+use Rattle.lists.specs.Lists.{Linked}
 use Rattle.units.specs.Limits.{lastTime, mostLight, mostNodes}
 use Rattle.plan.specs.Plan.{Each}
 use Rattle.service.specs.Service.{Service, contactOf}
-use Rattle.network.specs.Model.{behind, layer}
+use Rattle.network.specs.Model.{behind, relaxed, layer}
 use Rattle.network.specs.Network.{When, at, never, NotLater, Network, IsContact}
 
 -- never, as a word: later than every time
@@ -44,6 +48,23 @@ pub record Layered (entry exit : List ℕ) (k : ℕ) (next : List When) : Type 0
   pub timed : Each TimeWord exit
   pub kept : (j : ℕ) → (j ≡ suc k → ⊥) → rowOf exit j ≡ rowOf entry j
   pub is : layerOf exit (suc k) ≡ next
+
+-- the contacts in lists by the node that they are from: `heads` has the first one of each node, `nexts` for each contact the next one of its node
+pub record Listed (contacts : List ℕ) (m : ℕ) (heads nexts : List ℕ) : Type 0 where
+  pub linked : Linked (fromAt contacts) m heads nexts
+  pub a-node-each : length heads ≡ mostNodes
+  pub a-contact-each : m ≤ length nexts
+
+-- what trying some of the contacts leaves: as many words, each a time word; every row but row k + 1 as it was; in row k + 1 no entry is later than it was,
+-- none is earlier than in the layer after row k if none was, and for the contacts that are done none is later than what they bring
+pub record Tried (N : Network) (entry exit : List ℕ) (k : ℕ) (Done : ℕ → Type 0) : Type 0 where
+  pub long : length exit ≡ length entry
+  pub timed : Each TimeWord exit
+  pub kept : (j : ℕ) → (j ≡ suc k → ⊥) → rowOf exit j ≡ rowOf entry j
+  pub lower : (v : ℕ) → NotLater (getD (layerOf exit (suc k)) v never) (getD (layerOf entry (suc k)) v never)
+  pub enough : ((v : ℕ) → NotLater (getD (relaxed N (layerOf entry k) (N .contacts)) v never) (getD (layerOf entry (suc k)) v never))
+      → (v : ℕ) → NotLater (getD (relaxed N (layerOf entry k) (N .contacts)) v never) (getD (layerOf exit (suc k)) v never)
+  pub done : (c : ℕ) → IsContact N c → Done c → NotLater (getD (layerOf exit (suc k)) (N .to c) never) (behind N c (getD (layerOf entry k) (N .from c) never))
 
 -- row `old` is not row k + 1, and where it has a contact's first node as row k has it, the contact brings nothing earlier than row k has
 pub record Older (N : Network) (words : List ℕ) (old k : ℕ) : Type 0 where

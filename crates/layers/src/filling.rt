@@ -6,6 +6,11 @@ use crate::rows::copy_row;
 use crate::rows::get;
 use crate::rows::is_same;
 use crate::rows::put;
+use lists::BLANK;
+use lists::MOST_ROWS;
+use lists::first_from;
+use lists::link_from;
+use lists::next_of;
 use plan::contact_numbered;
 use timing::Arrival;
 use timing::step;
@@ -18,13 +23,14 @@ ghost use Prim.Native.Nat.{ℕ, _+_, _*_, _≤_, _<_};
 ghost use lib.ListN.{length, getD};
 ghost use Rattle.units.specs.Limits.{mostNodes};
 ghost use Rattle.plan.specs.Plan.{Each};
+ghost use Rattle.lists.specs.Model.{mostRows};
 ghost use Rattle.service.specs.Service.{InPlan};
 ghost use Rattle.service.specs.Tables.{served, IsService};
 ghost use Rattle.walk.specs.Walk.{GoodAsk};
 ghost use Rattle.network.specs.Model.{behind, relax, relaxed};
 ghost use Rattle.network.specs.Network.{never, NotLater};
 ghost use Rattle.layers.specs.Bridge.{networkOf};
-ghost use Rattle.layers.specs.Words.{neverWord, whenWord, TimeWord, rowOf, layerOf, Layered, Older, blankWords, Filled, AreEnds};
+ghost use Rattle.layers.specs.Words.{neverWord, whenWord, TimeWord, rowOf, layerOf, Layered, Listed, Tried, Older, blankWords, Filled, AreEnds};
 
 // When the file is ready behind the contact, as a word, from when it is ready before it.
 pub fn arrive(
@@ -91,7 +97,8 @@ fn is_late(
     there <= c.start.0
 }
 
-// One contact tried: the node that it is to may be reached earlier by it, out of row k, in row k + 1.
+// One contact tried: the node that it is to may be reached earlier by it, in row k + 1, where `ready` is the
+// word of the node that it is from, in row k.
 fn try_contact(
     contacts: &[u64],
     contact_count: usize,
@@ -100,15 +107,13 @@ fn try_contact(
     words: &mut [u64],
     k: usize,
     no: ContactNo,
+    ready: u64,
 )
-    requires { ⌜ IsService (now contacts) «contact_count» (now pairs) × GoodAsk ask × InPlan (served (now contacts) «contact_count» (now pairs)) (no .0) × Each TimeWord (now words) × ((k + 2) * mostNodes ≤ length (now words)) ⌝ }
+    requires { ⌜ IsService (now contacts) «contact_count» (now pairs) × GoodAsk ask × InPlan (served (now contacts) «contact_count» (now pairs)) (no .0) × Each TimeWord (now words) × ((k + 2) * mostNodes ≤ length (now words)) × (ready ≡ getD (rowOf (now words) k) (networkOf (served (now contacts) «contact_count» (now pairs)) ask .from (no .0)) 0) ⌝ }
     ensures { λ _. ⌜ Layered (now (words .entry)) (now (words .exit)) k (relax (networkOf (served (now (contacts .entry)) «contact_count» (now (pairs .entry))) ask) (layerOf (now (words .entry)) k) (no .0) (layerOf (now (words .entry)) (k + 1))) ⌝ }
 {
-    let ends = ends_of(contacts, contact_count, pairs, no);
-    let from = ends.from;
-    let to = ends.to;
+    let to = ends_of(contacts, contact_count, pairs, no).to;
     let next = k + 1;
-    let ready = get(words, k, from);
     let there = get(words, next, to);
     if is_late(contacts, contact_count, pairs, ask, no, ready, there) {
         return;
@@ -119,8 +124,33 @@ fn try_contact(
     }
 }
 
-// The same. A contact is looked at no further if its first node has in row k the word that it has in row
-// `old`: the contact was tried from there before, or there was nothing to try.
+// The contacts from node v tried, along their list.
+fn try_from(
+    contacts: &[u64],
+    contact_count: usize,
+    pairs: &[u64],
+    ask: Ask,
+    words: &mut [u64],
+    k: usize,
+    heads: &[u16],
+    nexts: &[u16],
+    v: usize,
+)
+    requires { ⌜ IsService (now contacts) «contact_count» (now pairs) × GoodAsk ask × Each TimeWord (now words) × ((k + 2) * mostNodes ≤ length (now words)) × Listed (now contacts) «contact_count» (now heads) (now nexts) × (v < mostNodes) ⌝ }
+    ensures { λ _. ⌜ Tried (networkOf (served (now (contacts .entry)) «contact_count» (now (pairs .entry))) ask) (now (words .entry)) (now (words .exit)) k (λ c. networkOf (served (now (contacts .entry)) «contact_count» (now (pairs .entry))) ask .from c ≡ v) ⌝ }
+{
+    let ready = get(words, k, v);
+    let mut i = first_from(heads, v);
+    while i < contact_count {
+        let number = i + 1;
+        let no = ContactNo(number as u64);
+        try_contact(contacts, contact_count, pairs, ask, words, k, no, ready);
+        i = next_of(nexts, i);
+    }
+}
+
+// The same. They are looked at no further if the node has in row k the word that it has in row `old`: they
+// were tried from there before, or there was nothing to try.
 fn try_changed(
     contacts: &[u64],
     contact_count: usize,
@@ -129,20 +159,31 @@ fn try_changed(
     words: &mut [u64],
     old: usize,
     k: usize,
-    no: ContactNo,
+    heads: &[u16],
+    nexts: &[u16],
+    v: usize,
 )
-    requires { ⌜ IsService (now contacts) «contact_count» (now pairs) × GoodAsk ask × InPlan (served (now contacts) «contact_count» (now pairs)) (no .0) × Each TimeWord (now words) × ((k + 2) * mostNodes ≤ length (now words)) ⌝ }
-    requires { ⌜ Older (networkOf (served (now contacts) «contact_count» (now pairs)) ask) (now words) old k × ((v : ℕ) → NotLater (getD (layerOf (now words) (k + 1)) v never) (getD (layerOf (now words) k) v never)) ⌝ }
-    ensures { λ _. ⌜ Layered (now (words .entry)) (now (words .exit)) k (relax (networkOf (served (now (contacts .entry)) «contact_count» (now (pairs .entry))) ask) (layerOf (now (words .entry)) k) (no .0) (layerOf (now (words .entry)) (k + 1))) ⌝ }
+    requires { ⌜ IsService (now contacts) «contact_count» (now pairs) × GoodAsk ask × Each TimeWord (now words) × ((k + 2) * mostNodes ≤ length (now words)) × Listed (now contacts) «contact_count» (now heads) (now nexts) × (v < mostNodes) ⌝ }
+    requires { ⌜ Older (networkOf (served (now contacts) «contact_count» (now pairs)) ask) (now words) old k × ((u : ℕ) → NotLater (getD (layerOf (now words) (k + 1)) u never) (getD (layerOf (now words) k) u never)) ⌝ }
+    ensures { λ _. ⌜ Tried (networkOf (served (now (contacts .entry)) «contact_count» (now (pairs .entry))) ask) (now (words .entry)) (now (words .exit)) k (λ c. networkOf (served (now (contacts .entry)) «contact_count» (now (pairs .entry))) ask .from c ≡ v) ⌝ }
 {
-    let from = ends_of(contacts, contact_count, pairs, no).from;
-    if get(words, old, from) == get(words, k, from) {
+    if get(words, old, v) == get(words, k, v) {
         return;
     }
-    try_contact(contacts, contact_count, pairs, ask, words, k, no);
+    try_from(
+        contacts,
+        contact_count,
+        pairs,
+        ask,
+        words,
+        k,
+        heads,
+        nexts,
+        v,
+    );
 }
 
-// The contacts 1 to contact_count tried, one after the other.
+// The contacts from every node tried, one node after the other.
 fn try_all(
     contacts: &[u64],
     contact_count: usize,
@@ -151,15 +192,27 @@ fn try_all(
     words: &mut [u64],
     old: usize,
     k: usize,
+    heads: &[u16],
+    nexts: &[u16],
 )
-    requires { ⌜ IsService (now contacts) «contact_count» (now pairs) × GoodAsk ask × Each TimeWord (now words) × ((k + 2) * mostNodes ≤ length (now words)) × (layerOf (now words) (k + 1) ≡ layerOf (now words) k) × Older (networkOf (served (now contacts) «contact_count» (now pairs)) ask) (now words) old k ⌝ }
+    requires { ⌜ IsService (now contacts) «contact_count» (now pairs) × GoodAsk ask × Each TimeWord (now words) × ((k + 2) * mostNodes ≤ length (now words)) × (layerOf (now words) (k + 1) ≡ layerOf (now words) k) × Older (networkOf (served (now contacts) «contact_count» (now pairs)) ask) (now words) old k × Listed (now contacts) «contact_count» (now heads) (now nexts) ⌝ }
     ensures { λ _. ⌜ Layered (now (words .entry)) (now (words .exit)) k (relaxed (networkOf (served (now (contacts .entry)) «contact_count» (now (pairs .entry))) ask) (layerOf (now (words .entry)) k) «contact_count») ⌝ }
 {
-    let mut tried: usize = 0;
-    while tried < contact_count {
-        tried += 1;
-        let no = ContactNo(tried as u64);
-        try_changed(contacts, contact_count, pairs, ask, words, old, k, no);
+    let mut v: usize = 0;
+    while v < NODES {
+        try_changed(
+            contacts,
+            contact_count,
+            pairs,
+            ask,
+            words,
+            old,
+            k,
+            heads,
+            nexts,
+            v,
+        );
+        v += 1;
     }
 }
 
@@ -173,17 +226,84 @@ fn next_row(
     words: &mut [u64],
     old: usize,
     k: usize,
+    heads: &[u16],
+    nexts: &[u16],
 ) -> bool
-    requires { ⌜ IsService (now contacts) «contact_count» (now pairs) × GoodAsk ask × Each TimeWord (now words) × ((k + 2) * mostNodes ≤ length (now words)) × Older (networkOf (served (now contacts) «contact_count» (now pairs)) ask) (now words) old k ⌝ }
+    requires { ⌜ IsService (now contacts) «contact_count» (now pairs) × GoodAsk ask × Each TimeWord (now words) × ((k + 2) * mostNodes ≤ length (now words)) × Older (networkOf (served (now contacts) «contact_count» (now pairs)) ask) (now words) old k × Listed (now contacts) «contact_count» (now heads) (now nexts) ⌝ }
     ensures { λ t. ⌜ Layered (now (words .entry)) (now (words .exit)) k (relaxed (networkOf (served (now (contacts .entry)) «contact_count» (now (pairs .entry))) ask) (layerOf (now (words .entry)) k) «contact_count») × (t ≡ true → rowOf (now (words .exit)) (k + 1) ≡ rowOf (now (words .exit)) k) ⌝ }
 {
     copy_row(words, k);
-    try_all(contacts, contact_count, pairs, ask, words, old, k);
+    try_all(
+        contacts,
+        contact_count,
+        pairs,
+        ask,
+        words,
+        old,
+        k,
+        heads,
+        nexts,
+    );
     is_same(words, k)
 }
 
 // Fills the rows with the layers and answers the last one worked out: every later layer is the same. Row 0
 // has none before it, and is held against the last row, which is blank still.
+fn fill_rows(
+    contacts: &[u64],
+    contact_count: usize,
+    pairs: &[u64],
+    ask: Ask,
+    words: &mut [u64],
+    heads: &[u16],
+    nexts: &[u16],
+) -> usize
+    requires { ⌜ IsService (now contacts) «contact_count» (now pairs) × GoodAsk ask × (now words ≡ blankWords) × Listed (now contacts) «contact_count» (now heads) (now nexts) ⌝ }
+    ensures { λ r. ⌜ Filled (networkOf (served (now (contacts .entry)) «contact_count» (now (pairs .entry))) ask) (now (words .exit)) r ⌝ }
+{
+    let source = (ask.source.0 - 1) as usize;
+    put(words, 0, source, ask.time.0);
+    let mut old: usize = NODES - 1;
+    let mut k: usize = 0;
+    while k < NODES - 1 {
+        let done = next_row(
+            contacts,
+            contact_count,
+            pairs,
+            ask,
+            words,
+            old,
+            k,
+            heads,
+            nexts,
+        );
+        old = k;
+        k += 1;
+        if done {
+            return k;
+        }
+    }
+    k
+}
+
+// The same, with the lists made in the lent words.
+fn fill_listed(
+    contacts: &[u64],
+    contact_count: usize,
+    pairs: &[u64],
+    ask: Ask,
+    words: &mut [u64],
+    heads: &mut [u16],
+    nexts: &mut [u16],
+) -> usize
+    requires { ⌜ IsService (now contacts) «contact_count» (now pairs) × GoodAsk ask × (now words ≡ blankWords) × (length (now heads) ≡ mostNodes) × (length (now nexts) ≡ mostRows) ⌝ }
+    ensures { λ r. ⌜ Filled (networkOf (served (now (contacts .entry)) «contact_count» (now (pairs .entry))) ask) (now (words .exit)) r ⌝ }
+{
+    link_from(contacts, contact_count, heads, nexts);
+    fill_rows(contacts, contact_count, pairs, ask, words, heads, nexts)
+}
+
+// The same, with the lists in words of its own.
 pub fn fill(
     contacts: &[u64],
     contact_count: usize,
@@ -194,17 +314,15 @@ pub fn fill(
     requires { ⌜ IsService (now contacts) «contact_count» (now pairs) × GoodAsk ask × (now words ≡ blankWords) ⌝ }
     ensures { λ r. ⌜ Filled (networkOf (served (now (contacts .entry)) «contact_count» (now (pairs .entry))) ask) (now (words .exit)) r ⌝ }
 {
-    let source = (ask.source.0 - 1) as usize;
-    put(words, 0, source, ask.time.0);
-    let mut old: usize = NODES - 1;
-    let mut k: usize = 0;
-    while k < NODES - 1 {
-        let done = next_row(contacts, contact_count, pairs, ask, words, old, k);
-        old = k;
-        k += 1;
-        if done {
-            return k;
-        }
-    }
-    k
+    let mut heads = [BLANK; NODES];
+    let mut nexts = [BLANK; MOST_ROWS];
+    fill_listed(
+        contacts,
+        contact_count,
+        pairs,
+        ask,
+        words,
+        &mut heads,
+        &mut nexts,
+    )
 }

@@ -3,6 +3,7 @@
 --     LinkedFrom                             the rows from row i on are linked
 --     linked-none, linked-row, linked-all    none, one row more, and all of them
 --     slot-found                             the slot that is found for a row is that row's
+--     node-read, node-found                  the node that a contact is from, read from its row
 -- Assumes nothing.
 use mathlib.Core.List.{List}
 use mathlib.Core.Path.{_≡_, sym, ap, _∙_, subst}
@@ -12,8 +13,11 @@ use native.Mathlib.Omega.{arith}
 use borrow.Author.Count.{below-more}
 use lib.ListN.{length, getD, set, length-set}
 use lib.Seq.{getD-set-same, getD-set-other}
+use Rattle.units.specs.Limits.{mostNodes, IsNode}
+use Rattle.plan.specs.declared.rows.Contact.{Contact}
 use Rattle.plan.specs.declared.rows.Span.{Span}
-use Rattle.plan.specs.Tables.{spanAt}
+use Rattle.plan.specs.Tables.{contactAt, spanAt}
+use Rattle.lists.specs.Leaving.{fromAt}
 use Rattle.lists.specs.Lists.{LeastFrom, Nexts, Linked, pairSlot, slotAt}
 
 pub fill-more : (l : List ℕ) (i w : ℕ) → i < length l → ((j : ℕ) → j < i → getD l j 0 ≡ w) → (j : ℕ) → j < i + 1 → getD (set l i w) j 0 ≡ w
@@ -84,3 +88,12 @@ module _ (key : ℕ → ℕ) (n : ℕ) (heads nexts : List ℕ) where
 pub slot-found : (table : List ℕ) (k : ℕ) (s : Span) (slot : ℕ) → s ≡ spanAt table k → slot ≡ pairSlot s → slot ≡ slotAt table k
 unfolding slotAt
 slot-found table k s slot es e = e ∙ ap pairSlot es
+
+-- the node that a contact is from, read from its row
+module _ (contacts : List ℕ) (k : ℕ) (x : Contact) (ex : x ≡ contactAt contacts k) (node : IsNode (contactAt contacts k .from)) where
+  pub node-read : 1 ≤ x .from .0
+  node-read = rw ex (node .least)
+
+  pub node-found : (x .from .0 - 1 ≡ fromAt contacts k) × (x .from .0 - 1 < mostNodes)
+  unfolding fromAt
+  node-found = (ap (λ (y : Contact). y .from .0 - 1) ex, rw ex (omega (arith, node .least, node .most)))

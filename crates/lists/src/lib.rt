@@ -1,7 +1,11 @@
 // The rows of a table in lists, one for each pair of nodes: the first row of the pair, and behind
-// each row the next one of its pair. Which slot a pair has is known here alone.
+// each row the next one of its pair. Which slot a pair has is known here alone. Contacts also by the node
+// that they are from.
+mod leaving;
 mod linking;
 
+pub use leaving::first_from;
+pub use leaving::link_from;
 pub use linking::BLANK;
 pub use linking::MOST_ROWS;
 pub use linking::SLOTS;

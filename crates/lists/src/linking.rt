@@ -18,7 +18,7 @@ pub const MOST_ROWS: usize = 512;
 pub const BLANK: u16 = 1;
 
 // A row in 16 bits.
-fn narrow(row: usize) -> u16
+pub fn narrow(row: usize) -> u16
     requires { ⌜ row < 65_536 ⌝ }
     ensures { λ r. ⌜ r ≡ row ⌝ }
 {
@@ -26,7 +26,7 @@ fn narrow(row: usize) -> u16
 }
 
 // A row of 16 bits as an index.
-fn wide(row: u16) -> usize
+pub fn wide(row: u16) -> usize
     ensures { λ r. ⌜ r ≡ row ⌝ }
 {
     row as usize
@@ -41,7 +41,7 @@ fn slot_of(s: Span) -> usize
 }
 
 // Sets each word to that one.
-fn fill(heads: &mut [u16], word: u16)
+pub fn fill(heads: &mut [u16], word: u16)
     ensures { λ _. ⌜ (length (now (heads .exit)) ≡ length (now (heads .entry))) × ((s : ℕ) → s < length (now (heads .entry)) → getD (now (heads .exit)) s 0 ≡ word) ⌝ }
 {
     let mut s = 0;

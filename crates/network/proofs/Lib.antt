@@ -1,4 +1,5 @@
 -- The theory of the best chain; Theorems holds what the other crates cite.
+pub mod AnyOrder
 pub mod Chains
 pub mod Chosen
 pub mod Distinct

@@ -1,5 +1,7 @@
 -- One layer from the layer before: what the contacts tried one after the other leave at a node.
 --     length-relaxed          trying contacts keeps the number of nodes
+--     relax-not-later, relax-tried, relax-either      one contact tried: no entry grows later, that of its node is no later than what it brings,
+--                             and an entry is the one before or what it brings
 --     relaxed-not-later       no entry grows later
 --     relaxed-tried           an entry is no later than what a contact tried brings
 --     relaxed-either          an entry is the one before, or what some contact brings
@@ -43,7 +45,7 @@ pub record Brought (N : Network) (before : List When) (v : ℕ) (w : When) : Typ
   pub is : w ≡ brings N before contact
 
 module _ (N : Network) (before : List When) where
-  relax-not-later : (c : ℕ) (now : List When) (v : ℕ) → NotLater (getD (relax N before c now) v never) (getD now v never)
+  pub relax-not-later : (c : ℕ) (now : List When) (v : ℕ) → NotLater (getD (relax N before c now) v never) (getD now v never)
   unfolding relax
   relax-not-later c now v = go (getD-set-either now (N .to c) v new never)
     where
@@ -55,11 +57,11 @@ module _ (N : Network) (before : List When) where
       go (inl e) = rw e (not-later-refl _)
       go (inr p) = rw (p .1, ← p .0) (earlier-left _ _)
 
-  relax-tried : (c : ℕ) (now : List When) → N .to c < length now → NotLater (getD (relax N before c now) (N .to c) never) (brings N before c)
+  pub relax-tried : (c : ℕ) (now : List When) → N .to c < length now → NotLater (getD (relax N before c now) (N .to c) never) (brings N before c)
   unfolding relax
   relax-tried c now h = rw (getD-set-same now (N .to c) _ never h) (earlier-right (getD now (N .to c) never) (brings N before c))
 
-  relax-either : (c : ℕ) (now : List When) (v : ℕ)
+  pub relax-either : (c : ℕ) (now : List When) (v : ℕ)
       → (getD (relax N before c now) v never ≡ getD now v never) ⊎ ((N .to c ≡ v) × (getD (relax N before c now) v never ≡ brings N before c))
   unfolding relax
   relax-either c now v = go (getD-set-either now (N .to c) v (earlier old new) never) (earlier-either old new)

@@ -1,5 +1,5 @@
 -- Times that may be never: the order `NotLater`, the limit `Within`, and the earlier of two.
---     not-later-refl, not-later-trans     NotLater is an order, and between times it is ≤ (not-later-times)
+--     not-later-refl, not-later-trans, not-later-antisym      NotLater is an order, and between times it is ≤ (not-later-times)
 --     not-later-within                    what is no later than something in time is in time
 --     not-later-at, within-at             what is no later than a time, or below a limit, is a time
 --     earlier-left, earlier-right         the earlier of two is no later than either
@@ -9,7 +9,7 @@
 use mathlib.Core.Path.{_≡_, refl, ap}
 use mathlib.Core.Logic.{_⊎_, inl, inr}
 use Prim.Native.Nat.{ℕ, _≤_, _<_, min}
-use native.Mathlib.Nat.{le-refl, le-trans, le-of-lt, lt-of-le-of-lt, lt-of-not-le, min-le-left, min-le-right, min-eq-left, min-eq-right}
+use native.Mathlib.Nat.{le-refl, le-trans, le-antisymm, le-of-lt, lt-of-le-of-lt, lt-of-not-le, min-le-left, min-le-right, min-eq-left, min-eq-right}
 use native.Mathlib.Decide.{decLe}
 use Rattle.network.specs.Network.{When, at, never, NotLater, both, last, Within, within}
 use Rattle.network.specs.Model.{earlier}
@@ -22,6 +22,10 @@ pub not-later-trans : {a b c : When} → NotLater a b → NotLater b c → NotLa
 not-later-trans (both h) (both k) = both (le-trans h k)
 not-later-trans (both h) last = last
 not-later-trans last last = last
+
+pub not-later-antisym : {a b : When} → NotLater a b → NotLater b a → a ≡ b
+not-later-antisym (both h) (both k) = ap at (le-antisymm h k)
+not-later-antisym last last = refl
 
 pub not-later-within : {a b : When} {limit : ℕ} → NotLater a b → Within b limit → Within a limit
 not-later-within (both h) (within k) = within (lt-of-le-of-lt h k)

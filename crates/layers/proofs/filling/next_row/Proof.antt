@@ -12,15 +12,15 @@ copy-row-requires c κs = search needs
 try-all-requires : tie.Need-try-all-requires
 try-all-requires c κs =
     let at-copy = c .before .before .before in
-    let pre = at-copy .before .before .before .before .before .pre in
+    let pre = at-copy .before .before .before .before .before .before .before .pre in
     let copy = at-copy .copy-row .ensures in
-    (pre .0, pre .1, copy .timed, omega (arith, copy .long, pre .3), copied-same _ _ _ copy, older-kept _ _ _ _ _ copy (pre .4))
+    (pre .0, pre .1, copy .timed, omega (arith, copy .long, pre .3), copied-same _ _ _ copy, older-kept _ _ _ _ _ (copy .long) (copy .kept) (pre .4), pre .5)
 
 is-same-requires : tie.Need-is-same-requires
 is-same-requires c κs =
     let at-try = c .before .before .before in
     let at-copy = at-try .before .before .before .before in
-    omega (arith, at-try .try-all .ensures .long, at-copy .copy-row .ensures .long, at-copy .before .before .before .before .before .pre .3)
+    omega (arith, at-try .try-all .ensures .long, at-copy .copy-row .ensures .long, at-copy .before .before .before .before .before .before .before .pre .3)
 
 same-length : tie.Need-same-length
 same-length c = search needs

@@ -1,12 +1,9 @@
 -- `layers::filling::try_changed` meets its contract.
 -- Assumes nothing.
 use borrow.Author.Needs.{needs}
-use Rattle.layers.proofs.LayerCode.{tried-before}
+use Rattle.layers.proofs.TriedCode.{tried-skipped}
 use Rattle.layers.proofs.filling.try_changed.Statement.{statement}
 use Rattle.layers.proofs.filling.try_changed.Tie as tie
-
-ends-of-requires : tie.Need-ends-of-requires
-ends-of-requires c κs = search needs
 
 get-requires : tie.Need-get-requires
 get-requires c κs = search needs
@@ -20,13 +17,11 @@ same-length c = search needs
 returns : tie.Need-returns
 returns c =
     let at-get = c .before .before .before in
-    let at-ends = at-get .before .before in
-    let pre = at-ends .before .before .before .before .pre in
-    tried-before _ _ _ _ _ _ _ _ (pre .0 .4) (pre .0 .3) (pre .0 .2) (at-ends .ends-of .ensures) (pre .1 .0) (pre .1 .1) _ _ (at-get .get .ensures)
-    (c .before .get2 .ensures) (c .if1 .taken)
+    let pre = at-get .before .before .before .before .before .before .before .pre in
+    tried-skipped _ _ _ _ _ (pre .0 .3) (pre .0 .2) (pre .0 .5) (pre .1 .0) (pre .1 .1) _ _ (at-get .get .ensures) (c .before .get2 .ensures) (c .if1 .taken)
 
-try-contact-requires : tie.Need-try-contact-requires
-try-contact-requires c κs = search needs
+try-from-requires : tie.Need-try-from-requires
+try-from-requires c κs = search needs
 
 same-length-2 : tie.Need-same-length-2
 same-length-2 c = search needs
@@ -36,13 +31,4 @@ returns-2 c = search needs
 
 pub try-changed-spec : {M : Type 1} → statement M
 try-changed-spec =
-    tie.close
-    (tie.spec
-    ends-of-requires
-    get-requires
-    get-requires-2
-    same-length
-    returns
-    try-contact-requires
-    same-length-2
-    returns-2)
+    tie.close (tie.spec get-requires get-requires-2 same-length returns try-from-requires same-length-2 returns-2)

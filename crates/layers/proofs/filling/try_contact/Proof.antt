@@ -3,7 +3,7 @@
 use native.Mathlib.Omega.{arith}
 use borrow.Author.Needs.{needs}
 use Rattle.units.specs.Limits.{mostNodes}
-use Rattle.layers.proofs.LayerCode.{read-time, tried-late, tried-earlier, tried-later}
+use Rattle.layers.proofs.LayerCode.{ready-time, tried-late, tried-earlier, tried-later}
 use Rattle.layers.proofs.filling.try_contact.Statement.{statement}
 use Rattle.layers.proofs.filling.try_contact.Tie as tie
 
@@ -17,34 +17,31 @@ add-next c = let start = c .before .before .before .before in omega (arith, star
 get-requires : tie.Need-get-requires
 get-requires c κs = search needs
 
-get-requires-2 : tie.Need-get-requires-2
-get-requires-2 c κs = search needs
-
 is-late-requires : tie.Need-is-late-requires
 is-late-requires c κs =
-    let at-get = c .before .before in
-    let at-ends = at-get .before .before in
-    let pre = at-ends .before .before .before .before .pre in
-    (pre .0, pre .1, pre .2, read-time _ _ _ _ (pre .3) (omega (arith, pre .4)) (at-ends .ends-of .ensures .from-node) (at-get .get .ensures))
+    let at-ends = c .before .before in
+    let start = at-ends .before .before .before .before in
+    let pre = start .pre in
+    (pre .0, pre .1, pre .2, ready-time _ _ _ _ _ _ _ (start .args .ready) (pre .3) (pre .4) (at-ends .ends-of .ensures) (pre .5))
 
 same-length : tie.Need-same-length
 same-length c = search needs
 
 returns : tie.Need-returns
 returns c =
-    let at-get2 = c .before .before in
-    let at-get = at-get2 .before .before in
+    let at-get = c .before .before in
     let at-ends = at-get .before .before in
-    let pre = at-ends .before .before .before .before .pre in
-    tried-late _ _ _ _ _ _ _ (pre .4) (pre .3) (at-ends .ends-of .ensures) _ _ (at-get .get .ensures) (at-get2 .get2 .ensures)
+    let start = at-ends .before .before .before .before in
+    let pre = start .pre in
+    tried-late _ _ _ _ _ _ _ (pre .4) (pre .3) (at-ends .ends-of .ensures) (start .args .ready) _ (pre .5) (at-get .get .ensures)
     (c .before .is-late .ensures (c .if1 .taken))
 
 arrive-requires : tie.Need-arrive-requires
 arrive-requires c κs =
-    let at-get = c .before .before .before .before in
-    let at-ends = at-get .before .before in
-    let pre = at-ends .before .before .before .before .pre in
-    (pre .0, pre .1, pre .2, read-time _ _ _ _ (pre .3) (omega (arith, pre .4)) (at-ends .ends-of .ensures .from-node) (at-get .get .ensures))
+    let at-ends = c .before .before .before .before in
+    let start = at-ends .before .before .before .before in
+    let pre = start .pre in
+    (pre .0, pre .1, pre .2, ready-time _ _ _ _ _ _ _ (start .args .ready) (pre .3) (pre .4) (at-ends .ends-of .ensures) (pre .5))
 
 put-requires : tie.Need-put-requires
 put-requires c κs = search needs
@@ -56,11 +53,11 @@ returns-2 : tie.Need-returns-2
 returns-2 c =
     let at-if2 = c .before .before .before .before in
     let at-arrive = at-if2 .before in
-    let at-get2 = at-arrive .before .before .before in
-    let at-get = at-get2 .before .before in
+    let at-get = at-arrive .before .before .before in
     let at-ends = at-get .before .before in
-    let pre = at-ends .before .before .before .before .pre in
-    tried-earlier _ _ _ _ _ _ _ (pre .4) (pre .3) (at-ends .ends-of .ensures) _ _ (at-get .get .ensures) (at-get2 .get2 .ensures) _
+    let start = at-ends .before .before .before .before in
+    let pre = start .pre in
+    tried-earlier _ _ _ _ _ _ _ (pre .4) (pre .3) (at-ends .ends-of .ensures) (start .args .ready) _ (pre .5) (at-get .get .ensures) _
     (at-arrive .arrive .ensures) _ (at-if2 .if2 .taken) (c .before .before .put .ensures)
 
 same-length-3 : tie.Need-same-length-3
@@ -69,11 +66,11 @@ same-length-3 c = search needs
 returns-3 : tie.Need-returns-3
 returns-3 c =
     let at-arrive = c .before in
-    let at-get2 = at-arrive .before .before .before in
-    let at-get = at-get2 .before .before in
+    let at-get = at-arrive .before .before .before in
     let at-ends = at-get .before .before in
-    let pre = at-ends .before .before .before .before .pre in
-    tried-later _ _ _ _ _ _ _ (pre .4) (pre .3) (at-ends .ends-of .ensures) _ _ (at-get .get .ensures) (at-get2 .get2 .ensures) _
+    let start = at-ends .before .before .before .before in
+    let pre = start .pre in
+    tried-later _ _ _ _ _ _ _ (pre .4) (pre .3) (at-ends .ends-of .ensures) (start .args .ready) _ (pre .5) (at-get .get .ensures) _
     (at-arrive .arrive .ensures) (c .if2 .left)
 
 pub try-contact-spec : {M : Type 1} → statement M
@@ -83,7 +80,6 @@ try-contact-spec =
     ends-of-requires
     add-next
     get-requires
-    get-requires-2
     is-late-requires
     same-length
     returns
