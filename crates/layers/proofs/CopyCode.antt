@@ -1,7 +1,6 @@
--- What the loops over a row know: the one that copies a row, and the one that compares two.
+-- What the loop knows that copies a row.
 --     Copied                          the first v words of row k + 1 are those of row k, and the other rows are as they were
 --     copied-none, copied-more, copied-all
---     rows-same                       two rows that agree at every node are the same
 -- Assumes nothing.
 use mathlib.Core.List.{List, map}
 use mathlib.Core.Path.{_≡_, refl, sym, ap, _∙_, subst}
@@ -16,12 +15,6 @@ use Rattle.units.specs.Limits.{mostNodes}
 use Rattle.plan.specs.Plan.{Each}
 use Rattle.layers.specs.Words.{whenWord, TimeWord, rowOf, layerOf, Layered}
 use Rattle.layers.proofs.RowLaws.{length-row, row-set, row-set-other, time-set, time-row}
-
-pub rows-same : (words : List ℕ) (j k : ℕ) → (j + 1) * mostNodes ≤ length words → (k + 1) * mostNodes ≤ length words
-    → ((i : ℕ) → i < mostNodes → getD (rowOf words j) i 0 ≡ getD (rowOf words k) i 0) → rowOf words j ≡ rowOf words k
-rows-same words j k hj hk same =
-    ext-getD 0 (rowOf words j) (rowOf words k) (length-row words j hj ∙ sym (length-row words k hk))
-    (λ i l. same i (omega (arith, length-row words j hj)))
 
 pub record Copied (entry words : List ℕ) (k v : ℕ) : Type 0 where
   pub long : length words ≡ length entry

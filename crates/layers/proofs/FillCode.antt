@@ -78,12 +78,11 @@ rows-next N words exit k m em r l = record {
       (eq-or-lt-of-le h);
 }
 
-pub rows-settled : (N : Network) (words : List ℕ) (k : ℕ) → k + 1 < mostNodes → RowsTo N words (k + 1) → rowOf words (k + 1) ≡ rowOf words k
+pub rows-settled : (N : Network) (words : List ℕ) (k : ℕ) → k + 1 < mostNodes → RowsTo N words (k + 1) → layerOf words (k + 1) ≡ layerOf words k
     → Filled N words (k + 1)
-unfolding layerOf
 rows-settled N words k h r same =
     let last-same : layer N (suc k) ≡ layer N k =
-    ap (layer N) (sym (add-one k)) ∙ sym (r .rows (k + 1) (le-refl (k + 1))) ∙ ap (map whenWord) same ∙ r .rows k (omega arith) in
+    ap (layer N) (sym (add-one k)) ∙ sym (r .rows (k + 1) (le-refl (k + 1))) ∙ same ∙ r .rows k (omega arith) in
     record {
       most = h;
       long = r .long;

@@ -4,7 +4,6 @@ use crate::rows::NEVER;
 use crate::rows::NODES;
 use crate::rows::copy_row;
 use crate::rows::get;
-use crate::rows::is_same;
 use crate::rows::put;
 use lists::BLANK;
 use lists::MOST_ROWS;
@@ -17,7 +16,7 @@ use timing::step;
 use units::Ask;
 use units::ContactNo;
 use units::Millis;
-ghost use mathlib.Core.Bool.{true};
+ghost use mathlib.Core.Bool.{true, false};
 ghost use mathlib.Core.Path.{_≡_};
 ghost use Prim.Native.Nat.{ℕ, _+_, _*_, _≤_, _<_};
 ghost use lib.ListN.{length, getD};
@@ -150,7 +149,7 @@ fn try_from(
 }
 
 // The same. They are looked at no further if the node has in row k the word that it has in row `old`: they
-// were tried from there before, or there was nothing to try.
+// were tried from there before, or there was nothing to try. Answers whether the two words differ.
 fn try_changed(
     contacts: &[u64],
     contact_count: usize,
@@ -162,13 +161,13 @@ fn try_changed(
     heads: &[u16],
     nexts: &[u16],
     v: usize,
-)
+) -> bool
     requires { ⌜ IsService (now contacts) «contact_count» (now pairs) × GoodAsk ask × Each TimeWord (now words) × ((k + 2) * mostNodes ≤ length (now words)) × Listed (now contacts) «contact_count» (now heads) (now nexts) × (v < mostNodes) ⌝ }
     requires { ⌜ Older (networkOf (served (now contacts) «contact_count» (now pairs)) ask) (now words) old k × ((u : ℕ) → NotLater (getD (layerOf (now words) (k + 1)) u never) (getD (layerOf (now words) k) u never)) ⌝ }
-    ensures { λ _. ⌜ Tried (networkOf (served (now (contacts .entry)) «contact_count» (now (pairs .entry))) ask) (now (words .entry)) (now (words .exit)) k (λ c. networkOf (served (now (contacts .entry)) «contact_count» (now (pairs .entry))) ask .from c ≡ v) ⌝ }
+    ensures { λ t. ⌜ Tried (networkOf (served (now (contacts .entry)) «contact_count» (now (pairs .entry))) ask) (now (words .entry)) (now (words .exit)) k (λ c. networkOf (served (now (contacts .entry)) «contact_count» (now (pairs .entry))) ask .from c ≡ v) × (t ≡ false → now (words .exit) ≡ now (words .entry)) ⌝ }
 {
     if get(words, old, v) == get(words, k, v) {
-        return;
+        return false;
     }
     try_from(
         contacts,
@@ -181,9 +180,11 @@ fn try_changed(
         nexts,
         v,
     );
+    true
 }
 
-// The contacts from every node tried, one node after the other.
+// The contacts from every node tried, one node after the other. Answers whether no node's words differed:
+// then nothing was tried.
 fn try_all(
     contacts: &[u64],
     contact_count: usize,
@@ -194,13 +195,14 @@ fn try_all(
     k: usize,
     heads: &[u16],
     nexts: &[u16],
-)
+) -> bool
     requires { ⌜ IsService (now contacts) «contact_count» (now pairs) × GoodAsk ask × Each TimeWord (now words) × ((k + 2) * mostNodes ≤ length (now words)) × (layerOf (now words) (k + 1) ≡ layerOf (now words) k) × Older (networkOf (served (now contacts) «contact_count» (now pairs)) ask) (now words) old k × Listed (now contacts) «contact_count» (now heads) (now nexts) ⌝ }
-    ensures { λ _. ⌜ Layered (now (words .entry)) (now (words .exit)) k (relaxed (networkOf (served (now (contacts .entry)) «contact_count» (now (pairs .entry))) ask) (layerOf (now (words .entry)) k) «contact_count») ⌝ }
+    ensures { λ t. ⌜ Layered (now (words .entry)) (now (words .exit)) k (relaxed (networkOf (served (now (contacts .entry)) «contact_count» (now (pairs .entry))) ask) (layerOf (now (words .entry)) k) «contact_count») × (t ≡ true → now (words .exit) ≡ now (words .entry)) ⌝ }
 {
+    let mut same = true;
     let mut v: usize = 0;
     while v < NODES {
-        try_changed(
+        let changed = try_changed(
             contacts,
             contact_count,
             pairs,
@@ -212,8 +214,12 @@ fn try_all(
             nexts,
             v,
         );
+        if changed {
+            same = false;
+        }
         v += 1;
     }
+    same
 }
 
 // Layer k + 1 out of layer k, in row k + 1, where `old` is the row before row k, or a blank one. Answers
@@ -230,7 +236,7 @@ fn next_row(
     nexts: &[u16],
 ) -> bool
     requires { ⌜ IsService (now contacts) «contact_count» (now pairs) × GoodAsk ask × Each TimeWord (now words) × ((k + 2) * mostNodes ≤ length (now words)) × Older (networkOf (served (now contacts) «contact_count» (now pairs)) ask) (now words) old k × Listed (now contacts) «contact_count» (now heads) (now nexts) ⌝ }
-    ensures { λ t. ⌜ Layered (now (words .entry)) (now (words .exit)) k (relaxed (networkOf (served (now (contacts .entry)) «contact_count» (now (pairs .entry))) ask) (layerOf (now (words .entry)) k) «contact_count») × (t ≡ true → rowOf (now (words .exit)) (k + 1) ≡ rowOf (now (words .exit)) k) ⌝ }
+    ensures { λ t. ⌜ Layered (now (words .entry)) (now (words .exit)) k (relaxed (networkOf (served (now (contacts .entry)) «contact_count» (now (pairs .entry))) ask) (layerOf (now (words .entry)) k) «contact_count») × (t ≡ true → layerOf (now (words .exit)) (k + 1) ≡ layerOf (now (words .exit)) k) ⌝ }
 {
     copy_row(words, k);
     try_all(
@@ -243,8 +249,7 @@ fn next_row(
         k,
         heads,
         nexts,
-    );
-    is_same(words, k)
+    )
 }
 
 // Fills the rows with the layers and answers the last one worked out: every later layer is the same. Row 0

@@ -1,6 +1,5 @@
 // The words of the layers: a row of words a layer, a word a node. `get` and `put` alone know where a
 // word stands.
-ghost use mathlib.Core.Bool.{true};
 ghost use mathlib.Core.Path.{_≡_};
 ghost use Prim.Native.Nat.{_+_, _*_, _≤_, _<_};
 ghost use lib.ListN.{length, getD, set};
@@ -43,20 +42,4 @@ pub fn copy_row(words: &mut [u64], k: usize)
         put(words, next, v, w);
         v += 1;
     }
-}
-
-// Whether rows k and k + 1 are the same.
-pub fn is_same(words: &[u64], k: usize) -> bool
-    requires { ⌜ (k + 2) * mostNodes ≤ length (now words) ⌝ }
-    ensures { λ t. ⌜ (t ≡ true → rowOf (now (words .entry)) (k + 1) ≡ rowOf (now (words .entry)) k) ⌝ }
-{
-    let next = k + 1;
-    let mut v = 0;
-    while v < NODES {
-        if get(words, k, v) != get(words, next, v) {
-            return false;
-        }
-        v += 1;
-    }
-    true
 }

@@ -1,7 +1,12 @@
--- `layers::filling::try_all` meets its contract. The loop's invariant: the contacts from the nodes below v are tried.
+-- `layers::filling::try_all` meets its contract. The loop's invariant: the contacts from the nodes below v are tried, and if the words of none of them differed
+-- the rows are as they were.
 -- Assumes nothing.
+use mathlib.Core.Bool.{true}
+use mathlib.Core.Logic.{⊎-elim}
+use mathlib.Core.Path.{_≡_, refl, sym, _∙_, subst}
 use Prim.Native.Nat.{_-_, _≤_, _<_}
 use native.Mathlib.Omega.{arith}
+use lib.Dec.{T}
 use Rattle.units.specs.Limits.{mostNodes}
 use Rattle.service.specs.Tables.{served}
 use Rattle.layers.specs.Bridge.{networkOf}
@@ -12,15 +17,16 @@ use Rattle.layers.proofs.filling.try_all.Statement.{statement}
 use Rattle.layers.proofs.filling.try_all.Tie as tie
 
 abbrev Inv-loop : tie.InvT-loop
-Inv-loop contacts contact-count pairs ask words₀ old k heads nexts v₀ words v =
+Inv-loop contacts contact-count pairs ask words₀ old k heads nexts same₀ v₀ words same v =
     (v ≤ 64)
     × Tried (networkOf (served contacts contact-count pairs) ask) words₀ words k (λ c. networkOf (served contacts contact-count pairs) ask .from c < v)
+    × (same ≡ true → words ≡ words₀)
 
 abbrev μ-loop : tie.MeasureT-loop
-μ-loop contacts contact-count pairs ask words₀ old k heads nexts v₀ words v = 64 - v
+μ-loop contacts contact-count pairs ask words₀ old k heads nexts same₀ v₀ words same v = 64 - v
 
 loop-holds : tie.Need-loop-holds Inv-loop μ-loop
-loop-holds c = let pre = c .before .before .before .before .before .pre in (omega arith, tried-none _ _ _ (pre .2) (λ c′ here none. omega arith))
+loop-holds c = let pre = c .before .before .before .before .before .pre in (omega arith, tried-none _ _ _ (pre .2) (λ c′ here none. omega arith), λ e. refl)
 
 try-changed-requires : tie.Need-try-changed-requires Inv-loop μ-loop
 unfolding mostNodes
@@ -40,8 +46,16 @@ loop-less c = omega arith
 
 loop-again : tie.Need-loop-again Inv-loop μ-loop
 loop-again c =
-    let at-test = c .before .before .before .before in
-    (omega (arith, at-test .loop-test .taken), tried-more _ _ _ _ _ _ (at-test .before .loop .inv .1) (c .before .before .try-changed .ensures))
+    let at-test = c .before .before .before .before .before in
+    let inv = at-test .before .loop .inv in
+    let told = c .before .before .before .try-changed .ensures in (
+      omega (arith, at-test .loop-test .taken),
+      tried-more _ _ _ _ _ _ (inv .1) (told .0),
+      ⊎-elim
+          (λ w e. absurd (subst T (sym e ∙ w .1) tt))
+          (λ w e. told .1 (w .0 .left) ∙ inv .2 (sym (w .1) ∙ e))
+          (c .if1 .came),
+    )
 
 same-length : tie.Need-same-length Inv-loop μ-loop
 same-length c = c .before .loop .inv .1 .long
@@ -51,7 +65,7 @@ unfolding mostNodes
 returns c =
     let at-loop = c .before in
     let pre = at-loop .before .before .before .before .before .before .pre in
-    tried-nodes _ _ _ _ _ _ _ _ (pre .0) (pre .1) (pre .3) (pre .4) (c .loop-test .left) (at-loop .loop .inv .1)
+    (tried-nodes _ _ _ _ _ _ _ _ (pre .0) (pre .1) (pre .3) (pre .4) (c .loop-test .left) (at-loop .loop .inv .1), at-loop .loop .inv .2)
 
 pub try-all-spec : {M : Type 1} → statement M
 try-all-spec =
