@@ -1,7 +1,7 @@
 -- `service::lights::begin_at` meets its contract.
 -- Assumes nothing.
 use borrow.Author.Needs.{needs}
-use Rattle.service.proofs.LightsCode.{begin-kept, begin-first}
+use Rattle.service.proofs.PassCode.{begin-kept, begin-first}
 use Rattle.service.proofs.lights.begin_at.Statement.{statement}
 use Rattle.service.proofs.lights.begin_at.Tie as tie
 

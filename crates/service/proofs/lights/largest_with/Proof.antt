@@ -1,6 +1,6 @@
 -- `service::lights::largest_with` meets its contract.
 -- Assumes nothing.
-use Rattle.service.proofs.LightsCode.{larger-kept, larger-before, larger-now}
+use Rattle.service.proofs.GatherCode.{larger-kept, larger-before, larger-now}
 use Rattle.service.proofs.lights.largest_with.Statement.{statement}
 use Rattle.service.proofs.lights.largest_with.Tie as tie
 

@@ -5,7 +5,8 @@ use native.Mathlib.Omega.{arith}
 use borrow.Author.Needs.{needs}
 use lib.ListN.{length-set}
 use Rattle.lists.specs.Model.{IsPair}
-use Rattle.service.proofs.LightsCode.{pair-nodes, head-passed, head-none, kept-passed, kept-more}
+use Rattle.service.proofs.GatherCode.{pair-nodes}
+use Rattle.service.proofs.PassCode.{head-passed, head-none, kept-passed, kept-more}
 use Rattle.service.proofs.lights.light_kept.Statement.{statement}
 use Rattle.service.proofs.lights.light_kept.Tie as tie
 

@@ -4,7 +4,8 @@ use Prim.Native.Nat.{_-_}
 use native.Mathlib.Omega.{arith}
 use Rattle.lists.specs.Lists.{pairSlot}
 use Rattle.service.specs.Model.{pairOf, Passed}
-use Rattle.service.proofs.LightsCode.{next-later, pass-goes}
+use Rattle.service.proofs.LightsCode.{next-later}
+use Rattle.service.proofs.PassCode.{pass-goes}
 use Rattle.service.proofs.lights.pass_over.Statement.{statement}
 use Rattle.service.proofs.lights.pass_over.Tie as tie
 

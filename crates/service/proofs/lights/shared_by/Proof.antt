@@ -2,7 +2,7 @@
 -- Assumes nothing.
 use mathlib.Core.Path.{_∙_}
 use borrow.Author.Needs.{needs}
-use Rattle.service.proofs.LightsCode.{shared-is, none-left}
+use Rattle.service.proofs.GatherCode.{shared-is, none-left}
 use Rattle.service.proofs.lights.shared_by.Statement.{statement}
 use Rattle.service.proofs.lights.shared_by.Tie as tie
 
