@@ -2,6 +2,6 @@
 pub mod BookLaws
 mod ChainCode
 pub mod PlaceLaws
-mod SumCode
+mod SpendCode
 pub mod UsesLaws
 mod ValidCode

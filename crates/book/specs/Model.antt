@@ -1,8 +1,8 @@
 -- What the contracts of single steps speak of. A reader of the promises may skip it.
 --     contactsAt      the first contacts of the chain in a place
---     HasRoom         a contact has a word among those that are summed up, with room for so many bytes more
---     Addable         the chain in a place is there, and each of its contacts has room for the booking
---     Added           so much of each contact is added to its word
+--     HasWord         a contact has a word among those of what is left
+--     Spendable       the chain in a place is there, and each of its contacts has a word
+--     Spent           so much of each contact is taken from its word, and 0 is left where more is taken
 --     once            so many bytes of each contact that a chain names, however often it names it
 --     takenAt         the bytes that the booking in a place takes of a contact from a class, and none where the place is free
 -- Assumes nothing.
@@ -22,18 +22,17 @@ abbrev pub contactsAt : List ℕ → ℕ → ℕ → List ℕ
 contactsAt u k n = rowsFrom (λ i. getD u (k * mostChain + i) 0) 0 n
 
 -- contacts are numbered from 1, words from 0
-pub record HasRoom (uses : List ℕ) (amount c : ℕ) : Type 0 where
+pub record HasWord (lefts : List ℕ) (c : ℕ) : Type 0 where
   pub least : 1 ≤ c
-  pub most : c ≤ length uses
-  pub room : getD uses (c - 1) 0 + amount < 18_446_744_073_709_551_616
+  pub most : c ≤ length lefts
 
-pub record Addable (t u uses : List ℕ) (k : ℕ) : Type 0 where
+pub record Spendable (t u lefts : List ℕ) (k : ℕ) : Type 0 where
   pub there : k * mostChain + countAt t k ≤ length u
-  pub fits : Each (HasRoom uses (bookingAt t u k .consumption)) (bookingAt t u k .chain)
+  pub fits : Each (HasWord lefts) (bookingAt t u k .chain)
 
-pub record Added (more : ℕ → ℕ) (before after : List ℕ) : Type 0 where
+pub record Spent (less : ℕ → ℕ) (before after : List ℕ) : Type 0 where
   pub same-length : length after ≡ length before
-  pub sums : (i : ℕ) → i < length before → getD after i 0 ≡ getD before i 0 + more (suc i)
+  pub lefts : (i : ℕ) → i < length before → getD after i 0 ≡ getD before i 0 - less (suc i)
 
 abbrev pub once : List ℕ → ℕ → ℕ → ℕ
 once chain amount c = cond (names chain c) amount 0

@@ -4,17 +4,17 @@ use crate::checking::checks;
 use crate::serving::serve_booked;
 use search::Routed;
 use search::route_served;
-use service::BLANK;
-use service::PAIRS;
+use service::BLANK_LEFT;
+use service::BLANK_LIGHT;
 use units::Ask;
 use units::MOST_CHAIN;
+use units::MOST_CONTACTS;
 use units::Refusal;
 ghost use mathlib.Core.Path.{_≡_};
-ghost use Prim.Native.Nat.{_*_, _≤_};
+ghost use Prim.Native.Nat.{_≤_};
 ghost use lib.ListN.{length};
 ghost use Rattle.units.specs.Limits.{mostContacts, mostChain};
 ghost use Rattle.plan.specs.Tables.{planOf};
-ghost use Rattle.service.specs.Tables.{pairWords};
 ghost use Rattle.book.specs.Tables.{bookOf};
 ghost use Rattle.search.specs.Model.{routeModel, routeAfter};
 ghost use Rattle.booking.specs.Booked.{withBook, Good};
@@ -30,10 +30,11 @@ fn route_through(
     chains: &[u16],
     ask: Ask,
     class: u64,
-    pairs: &mut [u64],
+    lights: &mut [u32],
+    lefts: &mut [u64],
     chain: &mut [u64],
 ) -> Routed
-    requires { ⌜ Good (now contacts) «contact_count» (now ranges) «range_count» (now book) (now chains) ask class × (mostContacts * pairWords ≤ length (now pairs)) × (mostChain ≤ length (now chain)) ⌝ }
+    requires { ⌜ Good (now contacts) «contact_count» (now ranges) «range_count» (now book) (now chains) ask class × (mostContacts ≤ length (now lights)) × (mostContacts ≤ length (now lefts)) × (mostChain ≤ length (now chain)) ⌝ }
     ensures { λ r. ⌜ (r ≡ routeModel (withBook (planOf (now (contacts .entry)) «contact_count» (now (ranges .entry)) «range_count») (bookOf (now (book .entry)) (now (chains .entry))) class) ask) × (now (chain .exit) ≡ routeAfter (withBook (planOf (now (contacts .entry)) «contact_count» (now (ranges .entry)) «range_count») (bookOf (now (book .entry)) (now (chains .entry))) class) ask (now (chain .entry))) ⌝ }
 {
     serve_booked(
@@ -44,9 +45,10 @@ fn route_through(
         book,
         chains,
         class,
-        pairs,
+        lights,
+        lefts,
     );
-    route_served(contacts, contact_count, pairs, ask, chain)
+    route_served(contacts, contact_count, lights, lefts, ask, chain)
 }
 
 // The same, with that table on the stack.
@@ -64,7 +66,8 @@ pub fn route_good(
     requires { ⌜ Good (now contacts) «contact_count» (now ranges) «range_count» (now book) (now chains) ask class × (mostChain ≤ length (now chain)) ⌝ }
     ensures { λ r. ⌜ (r ≡ routeModel (withBook (planOf (now (contacts .entry)) «contact_count» (now (ranges .entry)) «range_count») (bookOf (now (book .entry)) (now (chains .entry))) class) ask) × (now (chain .exit) ≡ routeAfter (withBook (planOf (now (contacts .entry)) «contact_count» (now (ranges .entry)) «range_count») (bookOf (now (book .entry)) (now (chains .entry))) class) ask (now (chain .entry))) ⌝ }
 {
-    let mut pairs = [BLANK; PAIRS];
+    let mut lights = [BLANK_LIGHT; MOST_CONTACTS];
+    let mut lefts = [BLANK_LEFT; MOST_CONTACTS];
     route_through(
         contacts,
         contact_count,
@@ -74,7 +77,8 @@ pub fn route_good(
         chains,
         ask,
         class,
-        &mut pairs,
+        &mut lights,
+        &mut lefts,
         chain,
     )
 }

@@ -2,17 +2,17 @@
 use crate::checking::Check;
 use crate::checking::checks;
 use crate::serving::serve_booked;
-use service::BLANK;
-use service::PAIRS;
+use service::BLANK_LEFT;
+use service::BLANK_LIGHT;
 use units::Ask;
+use units::MOST_CONTACTS;
 use walk::Walked;
 use walk::walk_served;
 ghost use mathlib.Core.Path.{_≡_};
-ghost use Prim.Native.Nat.{_*_, _≤_};
+ghost use Prim.Native.Nat.{_≤_};
 ghost use lib.ListN.{length};
 ghost use Rattle.units.specs.Limits.{mostContacts};
 ghost use Rattle.plan.specs.Tables.{planOf};
-ghost use Rattle.service.specs.Tables.{pairWords};
 ghost use Rattle.book.specs.Tables.{bookOf};
 ghost use Rattle.walk.specs.Model.{walkModel};
 ghost use Rattle.booking.specs.Booked.{withBook, Good};
@@ -29,9 +29,10 @@ fn walk_through(
     ask: Ask,
     class: u64,
     chain: &[u64],
-    pairs: &mut [u64],
+    lights: &mut [u32],
+    lefts: &mut [u64],
 ) -> Walked
-    requires { ⌜ Good (now contacts) «contact_count» (now ranges) «range_count» (now book) (now chains) ask class × (mostContacts * pairWords ≤ length (now pairs)) ⌝ }
+    requires { ⌜ Good (now contacts) «contact_count» (now ranges) «range_count» (now book) (now chains) ask class × (mostContacts ≤ length (now lights)) × (mostContacts ≤ length (now lefts)) ⌝ }
     ensures { λ r. ⌜ r ≡ walkModel (withBook (planOf (now (contacts .entry)) «contact_count» (now (ranges .entry)) «range_count») (bookOf (now (book .entry)) (now (chains .entry))) class) ask (now (chain .entry)) ⌝ }
 {
     serve_booked(
@@ -42,9 +43,10 @@ fn walk_through(
         book,
         chains,
         class,
-        pairs,
+        lights,
+        lefts,
     );
-    walk_served(contacts, contact_count, pairs, ask, chain)
+    walk_served(contacts, contact_count, lights, lefts, ask, chain)
 }
 
 // The same, with that table on the stack.
@@ -62,7 +64,8 @@ fn walk_good(
     requires { ⌜ Good (now contacts) «contact_count» (now ranges) «range_count» (now book) (now chains) ask class ⌝ }
     ensures { λ r. ⌜ r ≡ walkModel (withBook (planOf (now (contacts .entry)) «contact_count» (now (ranges .entry)) «range_count») (bookOf (now (book .entry)) (now (chains .entry))) class) ask (now (chain .entry)) ⌝ }
 {
-    let mut pairs = [BLANK; PAIRS];
+    let mut lights = [BLANK_LIGHT; MOST_CONTACTS];
+    let mut lefts = [BLANK_LEFT; MOST_CONTACTS];
     walk_through(
         contacts,
         contact_count,
@@ -73,7 +76,8 @@ fn walk_good(
         ask,
         class,
         chain,
-        &mut pairs,
+        &mut lights,
+        &mut lefts,
     )
 }
 

@@ -37,44 +37,44 @@ pub arrive-never : (p : Service) (ask : Ask) (c ready : ℕ) → ready ≡ never
 unfolding behind
 arrive-never p ask c ready e = (rw (when-never ready e, when-never neverWord refl), inr refl)
 
-module _ (contacts : List ℕ) (m : ℕ) (pairs : List ℕ) (plan : IsService contacts m pairs) (ask : Ask) (c ready : ℕ)
-    (named : InPlan (served contacts m pairs) c) (time : ready ≤ lastTime + mostLight) (x : Contact) (ex : x ≡ contactAt contacts (c - 1)) where
+module _ (contacts : List ℕ) (m : ℕ) (lights lefts : List ℕ) (plan : IsService contacts m lights lefts) (ask : Ask) (c ready : ℕ)
+    (named : InPlan (served contacts m lights lefts) c) (time : ready ≤ lastTime + mostLight) (x : Contact) (ex : x ≡ contactAt contacts (c - 1)) where
   -- the step from the node that was read is the step of the network
-  steps : (a : Arrival) → a ≡ stepOver (served contacts m pairs) ask (x .from .0) ready c
-      → behind (networkOf (served contacts m pairs) ask) c (whenWord ready) ≡ whenOf a
+  steps : (a : Arrival) → a ≡ stepOver (served contacts m lights lefts) ask (x .from .0) ready c
+      → behind (networkOf (served contacts m lights lefts) ask) c (whenWord ready) ≡ whenOf a
   unfolding behind networkOf
   steps a ea =
       rw (when-time ready time)
-      (ap (λ (y : Contact). whenOf (stepOver (served contacts m pairs) ask (y .from .0) ready c)) (contact-lent contacts m pairs c named ∙ sym ex)
+      (ap (λ (y : Contact). whenOf (stepOver (served contacts m lights lefts) ask (y .from .0) ready c)) (contact-lent contacts m lights lefts c named ∙ sym ex)
       ∙ ap whenOf (sym ea))
 
-  pub arrive-ready : (a : Arrival) (t : Millis) → a ≡ stepOver (served contacts m pairs) ask (x .from .0) ready c → a ≡ Ready t
-      → Arrives (served contacts m pairs) ask c ready (t .0)
+  pub arrive-ready : (a : Arrival) (t : Millis) → a ≡ stepOver (served contacts m lights lefts) ask (x .from .0) ready c → a ≡ Ready t
+      → Arrives (served contacts m lights lefts) ask c ready (t .0)
   arrive-ready a t ea et =
-      let bound : t .0 ≤ lastTime + mostLight = step-bounded (served contacts m pairs) (plan .sound) ask (x .from .0) ready c t (sym ea ∙ et) in
+      let bound : t .0 ≤ lastTime + mostLight = step-bounded (served contacts m lights lefts) (plan .sound) ask (x .from .0) ready c t (sym ea ∙ et) in
       (when-time (t .0) bound ∙ sym (steps a ea ∙ ap whenOf et), inl bound)
 
-  pub arrive-unready : (a : Arrival) → a ≡ stepOver (served contacts m pairs) ask (x .from .0) ready c → a ≡ Never
-      → Arrives (served contacts m pairs) ask c ready neverWord
+  pub arrive-unready : (a : Arrival) → a ≡ stepOver (served contacts m lights lefts) ask (x .from .0) ready c → a ≡ Never
+      → Arrives (served contacts m lights lefts) ask c ready neverWord
   arrive-unready a ea et = (when-never neverWord refl ∙ sym (steps a ea ∙ ap whenOf et), inr refl)
 
 -- the file is at the contact's last node at `there` already
-module _ (contacts : List ℕ) (m : ℕ) (pairs : List ℕ) (plan : IsService contacts m pairs) (ask : Ask) (good : GoodAsk ask) (c ready there : ℕ)
-    (named : InPlan (served contacts m pairs) c) (ready-word : TimeWord ready) where
+module _ (contacts : List ℕ) (m : ℕ) (lights lefts : List ℕ) (plan : IsService contacts m lights lefts) (ask : Ask) (good : GoodAsk ask) (c ready there : ℕ)
+    (named : InPlan (served contacts m lights lefts) c) (ready-word : TimeWord ready) where
   abbrev Late : Type 0
-  Late = NotLater (whenWord there) (behind (networkOf (served contacts m pairs) ask) c (whenWord ready))
+  Late = NotLater (whenWord there) (behind (networkOf (served contacts m lights lefts) ask) c (whenWord ready))
 
   pub late-ready : there ≤ ready → Late
   late-ready h =
       not-later-trans (when-not-later there ready h (time-most ready ready-word))
-      (behind-after _ (network-laws (served contacts m pairs) (plan .sound) ask good) c (in-plan-contact ask named) (whenWord ready))
+      (behind-after _ (network-laws (served contacts m lights lefts) (plan .sound) ask good) c (in-plan-contact ask named) (whenWord ready))
 
   module _ (x : Contact) (ex : x ≡ contactAt contacts (c - 1)) where
-    read : contactOf (served contacts m pairs) c ≡ x
-    read = contact-lent contacts m pairs c named ∙ sym ex
+    read : contactOf (served contacts m lights lefts) c ≡ x
+    read = contact-lent contacts m lights lefts c named ∙ sym ex
 
     good-read : GoodContact x
-    good-read = subst GoodContact (sym ex) (named-good contacts m pairs c plan named)
+    good-read = subst GoodContact (sym ex) (named-good contacts m lights lefts c plan named)
 
     -- a time of a contact says itself
     time-says : (t : ℕ) → t ≤ x .end .0 + 1 → whenWord t ≡ at t
@@ -85,10 +85,10 @@ module _ (contacts : List ℕ) (m : ℕ) (pairs : List ℕ) (plan : IsService co
     late-ended h =
         let after : NotLater (at (suc (x .end .0))) (whenWord ready) =
         subst (λ (w : When). NotLater w (whenWord ready)) (time-says (suc (x .end .0)) (omega arith)) (when-not-later (suc (x .end .0)) ready h (time-most ready ready-word)) in
-        rw (behind-ended (served contacts m pairs) ask c named (whenWord ready) (rw read after)) last
+        rw (behind-ended (served contacts m lights lefts) ask c named (whenWord ready) (rw read after)) last
 
     pub late-start : there ≤ x .start .0 → Late
     late-start h =
-        let from-start : NotLater (at (x .start .0)) (behind (networkOf (served contacts m pairs) ask) c (whenWord ready)) =
-        rw read at (behind-start (served contacts m pairs) ask c named (whenWord ready)) in
+        let from-start : NotLater (at (x .start .0)) (behind (networkOf (served contacts m lights lefts) ask) c (whenWord ready)) =
+        rw read at (behind-start (served contacts m lights lefts) ask c named (whenWord ready)) in
         not-later-trans (rw (time-says there (omega (arith, good-read .starts))) (both h)) from-start

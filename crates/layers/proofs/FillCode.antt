@@ -202,6 +202,6 @@ older-begin p ask good laws words exit old some most ew ee =
     }
 
 -- the network of a lent plan has as many contacts as the tables count
-pub contacts-counted : (contacts : List ℕ) (m : ℕ) (pairs : List ℕ) (ask : Ask) → networkOf (served contacts m pairs) ask .contacts ≡ m
+pub contacts-counted : (contacts : List ℕ) (m : ℕ) (lights lefts : List ℕ) (ask : Ask) → networkOf (served contacts m lights lefts) ask .contacts ≡ m
 unfolding networkOf
-contacts-counted contacts m pairs ask = length-served contacts m pairs
+contacts-counted contacts m lights lefts ask = length-served contacts m lights lefts

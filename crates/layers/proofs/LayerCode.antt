@@ -26,11 +26,11 @@ use Rattle.layers.specs.Words.{whenWord, TimeWord, rowOf, layerOf, Layer
 use Rattle.layers.proofs.ArriveCode.{Arrives}
 use Rattle.layers.proofs.RowLaws.{when-lower, when-not-later, time-most, row-set-other, getD-layer, layer-set, time-set, time-row}
 
-pub ends-are : (contacts : List ℕ) (m : ℕ) (pairs : List ℕ) (c : ℕ) → IsService contacts m pairs → InPlan (served contacts m pairs) c
-    → (x : Contact) → x ≡ contactAt contacts (c - 1) → AreEnds (served contacts m pairs) c (x .from .0 - 1) (x .to .0 - 1)
-ends-are contacts m pairs c plan named x ex =
-    let same : x ≡ contactOf (served contacts m pairs) c = ex ∙ sym (contact-lent contacts m pairs c named) in
-    let good : GoodContact x = subst GoodContact (sym ex) (named-good contacts m pairs c plan named) in
+pub ends-are : (contacts : List ℕ) (m : ℕ) (lights lefts : List ℕ) (c : ℕ) → IsService contacts m lights lefts → InPlan (served contacts m lights lefts) c
+    → (x : Contact) → x ≡ contactAt contacts (c - 1) → AreEnds (served contacts m lights lefts) c (x .from .0 - 1) (x .to .0 - 1)
+ends-are contacts m lights lefts c plan named x ex =
+    let same : x ≡ contactOf (served contacts m lights lefts) c = ex ∙ sym (contact-lent contacts m lights lefts c named) in
+    let good : GoodContact x = subst GoodContact (sym ex) (named-good contacts m lights lefts c plan named) in
     record {
       from-is = ap (λ (y : Contact). y .from .0 - 1) same;
       to-is = ap (λ (y : Contact). y .to .0 - 1) same;

@@ -35,19 +35,29 @@ ghost use Rattle.layers.specs.Words.{neverWord, whenWord, TimeWord, rowO
 pub fn arrive(
     contacts: &[u64],
     contact_count: usize,
-    pairs: &[u64],
+    lights: &[u32],
+    lefts: &[u64],
     ask: Ask,
     no: ContactNo,
     ready: u64,
 ) -> u64
-    requires { ⌜ IsService (now contacts) «contact_count» (now pairs) × GoodAsk ask × InPlan (served (now contacts) «contact_count» (now pairs)) (no .0) × TimeWord ready ⌝ }
-    ensures { λ r. ⌜ (whenWord r ≡ behind (networkOf (served (now (contacts .entry)) «contact_count» (now (pairs .entry))) ask) (no .0) (whenWord ready)) × TimeWord r ⌝ }
+    requires { ⌜ IsService (now contacts) «contact_count» (now lights) (now lefts) × GoodAsk ask × InPlan (served (now contacts) «contact_count» (now lights) (now lefts)) (no .0) × TimeWord ready ⌝ }
+    ensures { λ r. ⌜ (whenWord r ≡ behind (networkOf (served (now (contacts .entry)) «contact_count» (now (lights .entry)) (now (lefts .entry))) ask) (no .0) (whenWord ready)) × TimeWord r ⌝ }
 {
     if ready == NEVER {
         return NEVER;
     }
     let from = contact_numbered(contacts, no).from;
-    let arrival = step(contacts, contact_count, pairs, ask, from, Millis(ready), no);
+    let arrival = step(
+        contacts,
+        contact_count,
+        lights,
+        lefts,
+        ask,
+        from,
+        Millis(ready),
+        no,
+    );
     match arrival {
         Arrival::Ready(t) => t.0,
         Arrival::Never => NEVER,
@@ -60,9 +70,15 @@ pub struct Ends {
     pub to: usize,
 }
 
-pub fn ends_of(contacts: &[u64], contact_count: usize, pairs: &[u64], no: ContactNo) -> Ends
-    requires { ⌜ IsService (now contacts) «contact_count» (now pairs) × InPlan (served (now contacts) «contact_count» (now pairs)) (no .0) ⌝ }
-    ensures { λ r. ⌜ AreEnds (served (now (contacts .entry)) «contact_count» (now (pairs .entry))) (no .0) (r .from) (r .to) ⌝ }
+pub fn ends_of(
+    contacts: &[u64],
+    contact_count: usize,
+    lights: &[u32],
+    lefts: &[u64],
+    no: ContactNo,
+) -> Ends
+    requires { ⌜ IsService (now contacts) «contact_count» (now lights) (now lefts) × InPlan (served (now contacts) «contact_count» (now lights) (now lefts)) (no .0) ⌝ }
+    ensures { λ r. ⌜ AreEnds (served (now (contacts .entry)) «contact_count» (now (lights .entry)) (now (lefts .entry))) (no .0) (r .from) (r .to) ⌝ }
 {
     let c = contact_numbered(contacts, no);
     Ends {
@@ -77,14 +93,15 @@ pub fn ends_of(contacts: &[u64], contact_count: usize, pairs: &[u64], no: Contac
 fn is_late(
     contacts: &[u64],
     contact_count: usize,
-    pairs: &[u64],
+    lights: &[u32],
+    lefts: &[u64],
     ask: Ask,
     no: ContactNo,
     ready: u64,
     there: u64,
 ) -> bool
-    requires { ⌜ IsService (now contacts) «contact_count» (now pairs) × GoodAsk ask × InPlan (served (now contacts) «contact_count» (now pairs)) (no .0) × TimeWord ready ⌝ }
-    ensures { λ t. ⌜ (t ≡ true → NotLater (whenWord there) (behind (networkOf (served (now (contacts .entry)) «contact_count» (now (pairs .entry))) ask) (no .0) (whenWord ready))) ⌝ }
+    requires { ⌜ IsService (now contacts) «contact_count» (now lights) (now lefts) × GoodAsk ask × InPlan (served (now contacts) «contact_count» (now lights) (now lefts)) (no .0) × TimeWord ready ⌝ }
+    ensures { λ t. ⌜ (t ≡ true → NotLater (whenWord there) (behind (networkOf (served (now (contacts .entry)) «contact_count» (now (lights .entry)) (now (lefts .entry))) ask) (no .0) (whenWord ready))) ⌝ }
 {
     if there <= ready {
         return true;
@@ -101,23 +118,33 @@ fn is_late(
 fn try_contact(
     contacts: &[u64],
     contact_count: usize,
-    pairs: &[u64],
+    lights: &[u32],
+    lefts: &[u64],
     ask: Ask,
     words: &mut [u64],
     k: usize,
     no: ContactNo,
     ready: u64,
 )
-    requires { ⌜ IsService (now contacts) «contact_count» (now pairs) × GoodAsk ask × InPlan (served (now contacts) «contact_count» (now pairs)) (no .0) × Each TimeWord (now words) × ((k + 2) * mostNodes ≤ length (now words)) × (ready ≡ getD (rowOf (now words) k) (networkOf (served (now contacts) «contact_count» (now pairs)) ask .from (no .0)) 0) ⌝ }
-    ensures { λ _. ⌜ Layered (now (words .entry)) (now (words .exit)) k (relax (networkOf (served (now (contacts .entry)) «contact_count» (now (pairs .entry))) ask) (layerOf (now (words .entry)) k) (no .0) (layerOf (now (words .entry)) (k + 1))) ⌝ }
+    requires { ⌜ IsService (now contacts) «contact_count» (now lights) (now lefts) × GoodAsk ask × InPlan (served (now contacts) «contact_count» (now lights) (now lefts)) (no .0) × Each TimeWord (now words) × ((k + 2) * mostNodes ≤ length (now words)) × (ready ≡ getD (rowOf (now words) k) (networkOf (served (now contacts) «contact_count» (now lights) (now lefts)) ask .from (no .0)) 0) ⌝ }
+    ensures { λ _. ⌜ Layered (now (words .entry)) (now (words .exit)) k (relax (networkOf (served (now (contacts .entry)) «contact_count» (now (lights .entry)) (now (lefts .entry))) ask) (layerOf (now (words .entry)) k) (no .0) (layerOf (now (words .entry)) (k + 1))) ⌝ }
 {
-    let to = ends_of(contacts, contact_count, pairs, no).to;
+    let to = ends_of(contacts, contact_count, lights, lefts, no).to;
     let next = k + 1;
     let there = get(words, next, to);
-    if is_late(contacts, contact_count, pairs, ask, no, ready, there) {
+    if is_late(
+        contacts,
+        contact_count,
+        lights,
+        lefts,
+        ask,
+        no,
+        ready,
+        there,
+    ) {
         return;
     }
-    let arrival = arrive(contacts, contact_count, pairs, ask, no, ready);
+    let arrival = arrive(contacts, contact_count, lights, lefts, ask, no, ready);
     if arrival < there {
         put(words, next, to, arrival);
     }
@@ -127,7 +154,8 @@ fn try_contact(
 fn try_from(
     contacts: &[u64],
     contact_count: usize,
-    pairs: &[u64],
+    lights: &[u32],
+    lefts: &[u64],
     ask: Ask,
     words: &mut [u64],
     k: usize,
@@ -135,15 +163,25 @@ fn try_from(
     nexts: &[u16],
     v: usize,
 )
-    requires { ⌜ IsService (now contacts) «contact_count» (now pairs) × GoodAsk ask × Each TimeWord (now words) × ((k + 2) * mostNodes ≤ length (now words)) × Listed (now contacts) «contact_count» (now heads) (now nexts) × (v < mostNodes) ⌝ }
-    ensures { λ _. ⌜ Tried (networkOf (served (now (contacts .entry)) «contact_count» (now (pairs .entry))) ask) (now (words .entry)) (now (words .exit)) k (λ c. networkOf (served (now (contacts .entry)) «contact_count» (now (pairs .entry))) ask .from c ≡ v) ⌝ }
+    requires { ⌜ IsService (now contacts) «contact_count» (now lights) (now lefts) × GoodAsk ask × Each TimeWord (now words) × ((k + 2) * mostNodes ≤ length (now words)) × Listed (now contacts) «contact_count» (now heads) (now nexts) × (v < mostNodes) ⌝ }
+    ensures { λ _. ⌜ Tried (networkOf (served (now (contacts .entry)) «contact_count» (now (lights .entry)) (now (lefts .entry))) ask) (now (words .entry)) (now (words .exit)) k (λ c. networkOf (served (now (contacts .entry)) «contact_count» (now (lights .entry)) (now (lefts .entry))) ask .from c ≡ v) ⌝ }
 {
     let ready = get(words, k, v);
     let mut i = first_from(heads, v);
     while i < contact_count {
         let number = i + 1;
         let no = ContactNo(number as u64);
-        try_contact(contacts, contact_count, pairs, ask, words, k, no, ready);
+        try_contact(
+            contacts,
+            contact_count,
+            lights,
+            lefts,
+            ask,
+            words,
+            k,
+            no,
+            ready,
+        );
         i = next_of(nexts, i);
     }
 }
@@ -153,7 +191,8 @@ fn try_from(
 fn try_changed(
     contacts: &[u64],
     contact_count: usize,
-    pairs: &[u64],
+    lights: &[u32],
+    lefts: &[u64],
     ask: Ask,
     words: &mut [u64],
     old: usize,
@@ -162,9 +201,9 @@ fn try_changed(
     nexts: &[u16],
     v: usize,
 ) -> bool
-    requires { ⌜ IsService (now contacts) «contact_count» (now pairs) × GoodAsk ask × Each TimeWord (now words) × ((k + 2) * mostNodes ≤ length (now words)) × Listed (now contacts) «contact_count» (now heads) (now nexts) × (v < mostNodes) ⌝ }
-    requires { ⌜ Older (networkOf (served (now contacts) «contact_count» (now pairs)) ask) (now words) old k × ((u : ℕ) → NotLater (getD (layerOf (now words) (k + 1)) u never) (getD (layerOf (now words) k) u never)) ⌝ }
-    ensures { λ t. ⌜ Tried (networkOf (served (now (contacts .entry)) «contact_count» (now (pairs .entry))) ask) (now (words .entry)) (now (words .exit)) k (λ c. networkOf (served (now (contacts .entry)) «contact_count» (now (pairs .entry))) ask .from c ≡ v) × (t ≡ false → now (words .exit) ≡ now (words .entry)) ⌝ }
+    requires { ⌜ IsService (now contacts) «contact_count» (now lights) (now lefts) × GoodAsk ask × Each TimeWord (now words) × ((k + 2) * mostNodes ≤ length (now words)) × Listed (now contacts) «contact_count» (now heads) (now nexts) × (v < mostNodes) ⌝ }
+    requires { ⌜ Older (networkOf (served (now contacts) «contact_count» (now lights) (now lefts)) ask) (now words) old k × ((u : ℕ) → NotLater (getD (layerOf (now words) (k + 1)) u never) (getD (layerOf (now words) k) u never)) ⌝ }
+    ensures { λ t. ⌜ Tried (networkOf (served (now (contacts .entry)) «contact_count» (now (lights .entry)) (now (lefts .entry))) ask) (now (words .entry)) (now (words .exit)) k (λ c. networkOf (served (now (contacts .entry)) «contact_count» (now (lights .entry)) (now (lefts .entry))) ask .from c ≡ v) × (t ≡ false → now (words .exit) ≡ now (words .entry)) ⌝ }
 {
     if get(words, old, v) == get(words, k, v) {
         return false;
@@ -172,7 +211,8 @@ fn try_changed(
     try_from(
         contacts,
         contact_count,
-        pairs,
+        lights,
+        lefts,
         ask,
         words,
         k,
@@ -188,7 +228,8 @@ fn try_changed(
 fn try_all(
     contacts: &[u64],
     contact_count: usize,
-    pairs: &[u64],
+    lights: &[u32],
+    lefts: &[u64],
     ask: Ask,
     words: &mut [u64],
     old: usize,
@@ -196,8 +237,8 @@ fn try_all(
     heads: &[u16],
     nexts: &[u16],
 ) -> bool
-    requires { ⌜ IsService (now contacts) «contact_count» (now pairs) × GoodAsk ask × Each TimeWord (now words) × ((k + 2) * mostNodes ≤ length (now words)) × (layerOf (now words) (k + 1) ≡ layerOf (now words) k) × Older (networkOf (served (now contacts) «contact_count» (now pairs)) ask) (now words) old k × Listed (now contacts) «contact_count» (now heads) (now nexts) ⌝ }
-    ensures { λ t. ⌜ Layered (now (words .entry)) (now (words .exit)) k (relaxed (networkOf (served (now (contacts .entry)) «contact_count» (now (pairs .entry))) ask) (layerOf (now (words .entry)) k) «contact_count») × (t ≡ true → now (words .exit) ≡ now (words .entry)) ⌝ }
+    requires { ⌜ IsService (now contacts) «contact_count» (now lights) (now lefts) × GoodAsk ask × Each TimeWord (now words) × ((k + 2) * mostNodes ≤ length (now words)) × (layerOf (now words) (k + 1) ≡ layerOf (now words) k) × Older (networkOf (served (now contacts) «contact_count» (now lights) (now lefts)) ask) (now words) old k × Listed (now contacts) «contact_count» (now heads) (now nexts) ⌝ }
+    ensures { λ t. ⌜ Layered (now (words .entry)) (now (words .exit)) k (relaxed (networkOf (served (now (contacts .entry)) «contact_count» (now (lights .entry)) (now (lefts .entry))) ask) (layerOf (now (words .entry)) k) «contact_count») × (t ≡ true → now (words .exit) ≡ now (words .entry)) ⌝ }
 {
     let mut same = true;
     let mut v: usize = 0;
@@ -205,7 +246,8 @@ fn try_all(
         let changed = try_changed(
             contacts,
             contact_count,
-            pairs,
+            lights,
+            lefts,
             ask,
             words,
             old,
@@ -227,7 +269,8 @@ fn try_all(
 fn next_row(
     contacts: &[u64],
     contact_count: usize,
-    pairs: &[u64],
+    lights: &[u32],
+    lefts: &[u64],
     ask: Ask,
     words: &mut [u64],
     old: usize,
@@ -235,14 +278,15 @@ fn next_row(
     heads: &[u16],
     nexts: &[u16],
 ) -> bool
-    requires { ⌜ IsService (now contacts) «contact_count» (now pairs) × GoodAsk ask × Each TimeWord (now words) × ((k + 2) * mostNodes ≤ length (now words)) × Older (networkOf (served (now contacts) «contact_count» (now pairs)) ask) (now words) old k × Listed (now contacts) «contact_count» (now heads) (now nexts) ⌝ }
-    ensures { λ t. ⌜ Layered (now (words .entry)) (now (words .exit)) k (relaxed (networkOf (served (now (contacts .entry)) «contact_count» (now (pairs .entry))) ask) (layerOf (now (words .entry)) k) «contact_count») × (t ≡ true → layerOf (now (words .exit)) (k + 1) ≡ layerOf (now (words .exit)) k) ⌝ }
+    requires { ⌜ IsService (now contacts) «contact_count» (now lights) (now lefts) × GoodAsk ask × Each TimeWord (now words) × ((k + 2) * mostNodes ≤ length (now words)) × Older (networkOf (served (now contacts) «contact_count» (now lights) (now lefts)) ask) (now words) old k × Listed (now contacts) «contact_count» (now heads) (now nexts) ⌝ }
+    ensures { λ t. ⌜ Layered (now (words .entry)) (now (words .exit)) k (relaxed (networkOf (served (now (contacts .entry)) «contact_count» (now (lights .entry)) (now (lefts .entry))) ask) (layerOf (now (words .entry)) k) «contact_count») × (t ≡ true → layerOf (now (words .exit)) (k + 1) ≡ layerOf (now (words .exit)) k) ⌝ }
 {
     copy_row(words, k);
     try_all(
         contacts,
         contact_count,
-        pairs,
+        lights,
+        lefts,
         ask,
         words,
         old,
@@ -257,14 +301,15 @@ fn next_row(
 fn fill_rows(
     contacts: &[u64],
     contact_count: usize,
-    pairs: &[u64],
+    lights: &[u32],
+    lefts: &[u64],
     ask: Ask,
     words: &mut [u64],
     heads: &[u16],
     nexts: &[u16],
 ) -> usize
-    requires { ⌜ IsService (now contacts) «contact_count» (now pairs) × GoodAsk ask × (now words ≡ blankWords) × Listed (now contacts) «contact_count» (now heads) (now nexts) ⌝ }
-    ensures { λ r. ⌜ Filled (networkOf (served (now (contacts .entry)) «contact_count» (now (pairs .entry))) ask) (now (words .exit)) r ⌝ }
+    requires { ⌜ IsService (now contacts) «contact_count» (now lights) (now lefts) × GoodAsk ask × (now words ≡ blankWords) × Listed (now contacts) «contact_count» (now heads) (now nexts) ⌝ }
+    ensures { λ r. ⌜ Filled (networkOf (served (now (contacts .entry)) «contact_count» (now (lights .entry)) (now (lefts .entry))) ask) (now (words .exit)) r ⌝ }
 {
     let source = (ask.source.0 - 1) as usize;
     put(words, 0, source, ask.time.0);
@@ -274,7 +319,8 @@ fn fill_rows(
         let done = next_row(
             contacts,
             contact_count,
-            pairs,
+            lights,
+            lefts,
             ask,
             words,
             old,
@@ -295,36 +341,48 @@ fn fill_rows(
 fn fill_listed(
     contacts: &[u64],
     contact_count: usize,
-    pairs: &[u64],
+    lights: &[u32],
+    lefts: &[u64],
     ask: Ask,
     words: &mut [u64],
     heads: &mut [u16],
     nexts: &mut [u16],
 ) -> usize
-    requires { ⌜ IsService (now contacts) «contact_count» (now pairs) × GoodAsk ask × (now words ≡ blankWords) × (length (now heads) ≡ mostNodes) × (length (now nexts) ≡ mostRows) ⌝ }
-    ensures { λ r. ⌜ Filled (networkOf (served (now (contacts .entry)) «contact_count» (now (pairs .entry))) ask) (now (words .exit)) r ⌝ }
+    requires { ⌜ IsService (now contacts) «contact_count» (now lights) (now lefts) × GoodAsk ask × (now words ≡ blankWords) × (length (now heads) ≡ mostNodes) × (length (now nexts) ≡ mostRows) ⌝ }
+    ensures { λ r. ⌜ Filled (networkOf (served (now (contacts .entry)) «contact_count» (now (lights .entry)) (now (lefts .entry))) ask) (now (words .exit)) r ⌝ }
 {
     link_from(contacts, contact_count, heads, nexts);
-    fill_rows(contacts, contact_count, pairs, ask, words, heads, nexts)
+    fill_rows(
+        contacts,
+        contact_count,
+        lights,
+        lefts,
+        ask,
+        words,
+        heads,
+        nexts,
+    )
 }
 
 // The same, with the lists in words of its own.
 pub fn fill(
     contacts: &[u64],
     contact_count: usize,
-    pairs: &[u64],
+    lights: &[u32],
+    lefts: &[u64],
     ask: Ask,
     words: &mut [u64],
 ) -> usize
-    requires { ⌜ IsService (now contacts) «contact_count» (now pairs) × GoodAsk ask × (now words ≡ blankWords) ⌝ }
-    ensures { λ r. ⌜ Filled (networkOf (served (now (contacts .entry)) «contact_count» (now (pairs .entry))) ask) (now (words .exit)) r ⌝ }
+    requires { ⌜ IsService (now contacts) «contact_count» (now lights) (now lefts) × GoodAsk ask × (now words ≡ blankWords) ⌝ }
+    ensures { λ r. ⌜ Filled (networkOf (served (now (contacts .entry)) «contact_count» (now (lights .entry)) (now (lefts .entry))) ask) (now (words .exit)) r ⌝ }
 {
     let mut heads = [BLANK; NODES];
     let mut nexts = [BLANK; MOST_ROWS];
     fill_listed(
         contacts,
         contact_count,
-        pairs,
+        lights,
+        lefts,
         ask,
         words,
         &mut heads,

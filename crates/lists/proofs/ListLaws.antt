@@ -1,10 +1,10 @@
 -- What a user of the lists knows.
 --     pair-slot, slot-same                  one pair has one slot, and so have rows of one pair
---     slot-pair                             and no other pair has it
 --     slot-below                            it is one of the slots
 --     Along                                 a walk along the list of a key has come to row j, and all before it that have the key are good
 --     along-starts, along-goes, along-ends  it begins, goes on to the next row, and ends
 --     chained                               what holds from each row to the next, and is carried on, holds from each row to each later one of its key
+--     ordered-later                         rows in order: a row ends no later than each later one of its slot starts
 -- Assumes nothing.
 use mathlib.Core.List.{List}
 use mathlib.Core.Path.{_≡_, sym, _∙_, subst}
@@ -16,7 +16,7 @@ use lib.ListN.{getD}
 use Rattle.units.specs.Limits.{mostNodes}
 use Rattle.plan.specs.declared.rows.Span.{Span}
 use Rattle.plan.specs.Tables.{spanAt}
-use Rattle.lists.specs.Lists.{LeastFrom, Nexts, pairSlot, slotAt}
+use Rattle.lists.specs.Lists.{LeastFrom, Nexts, pairSlot, slotAt, Followed, InOrder}
 use Rattle.lists.specs.Model.{slots, IsPair}
 
 pub pair-slot : (s t : Span) → s .one .0 ≡ t .one .0 → s .other .0 ≡ t .other .0 → pairSlot s ≡ pairSlot t
@@ -26,13 +26,6 @@ pair-slot s t one other = rw (one, other)
 pub slot-same : (table : List ℕ) (j k : ℕ) → spanAt table j .one .0 ≡ spanAt table k .one .0 → spanAt table j .other .0 ≡ spanAt table k .other .0 → slotAt table j ≡ slotAt table k
 unfolding slotAt
 slot-same table j k = pair-slot (spanAt table j) (spanAt table k)
-
-pub slot-pair : (s t : Span) → IsPair s → IsPair t → pairSlot s ≡ pairSlot t → (s .one .0 ≡ t .one .0) × (s .other .0 ≡ t .other .0)
-unfolding pairSlot mostNodes
-slot-pair s t ps pt e =
-    let one : s .one .0 ≡ t .one .0 =
-    omega (arith, ps .one-node .least, ps .other-node .least, ps .other-node .most, pt .one-node .least, pt .other-node .least, pt .other-node .most) in
-    (one, omega (arith, ps .other-node .least, pt .other-node .least))
 
 pub slot-below : (s : Span) → IsPair s → pairSlot s < slots
 unfolding pairSlot mostNodes slots
@@ -89,3 +82,12 @@ module _ (key : ℕ → ℕ) (n : ℕ) (nexts : List ℕ) (linked : Nexts key n 
 
   pub chained : (i k : ℕ) → i < k → k < n → key i ≡ key k → R i k
   chained i k later h e = chained-in k i k (omega arith) later h e
+
+-- a row of the slot starts where the one before it ended, or later, and ends later than it starts
+pub ordered-later : (table : List ℕ) (n : ℕ) (nexts : List ℕ) → Nexts (slotAt table) n nexts
+    → ((k : ℕ) → k < n → spanAt table k .start .0 < spanAt table k .end .0) → InOrder table n nexts
+    → (i k : ℕ) → i < k → k < n → slotAt table i ≡ slotAt table k → spanAt table i .end .0 ≤ spanAt table k .start .0
+unfolding InOrder Followed
+ordered-later table n nexts linked starts order i k later h e =
+    chained (slotAt table) n nexts linked (λ i k. spanAt table i .end .0 ≤ spanAt table k .start .0) order
+    (λ i j k m x y. omega (arith, starts j m)) i k later h e

@@ -2,10 +2,11 @@
 --     LeastFrom          the least row with a key from a row on, or the number of rows where none has it
 --     Linked             what two tables hold: the first row of each key, and the next row of each row
 --     pairSlot, slotAt   the key of a row: the slot of its pair of nodes
+--     Followed, InOrder  a row ends no later than the next one of its slot starts; each does
 -- Assumes nothing.
 use mathlib.Core.List.{List}
 use mathlib.Core.Path.{_≡_}
-use Prim.Native.Nat.{ℕ, suc, _+_, _-_, _*_, _≤_, _<_}
+use Prim.Native.Nat.{ℕ, suc, _+_, _-_, _*_, _%_, _≤_, _<_}
 use lib.ListN.{length, getD}
 use Rattle.plan.specs.declared.rows.Span.{Span}
 use Rattle.plan.specs.Tables.{spanAt}
@@ -26,10 +27,17 @@ pub record Linked (key : ℕ → ℕ) (n : ℕ) (heads nexts : List ℕ) : Type 
   pub first : (s : ℕ) → s < length heads → LeastFrom key 0 n s (getD heads s 0)
   pub next : Nexts key n nexts
 
--- a slot for each pair of nodes
+-- the slot of a pair of nodes: pairs share slots
 unfoldable pub pairSlot : Span → ℕ
-pairSlot s = (s .one .0 - 1) * 64 + (s .other .0 - 1)
+pairSlot s = ((s .one .0 - 1) * 24 + (s .other .0 - 1)) % 512
 
 unfoldable pub slotAt : List ℕ → ℕ → ℕ
 unfolding pairSlot
 slotAt table k = pairSlot (spanAt table k)
+
+unfoldable pub Followed : List ℕ → ℕ → List ℕ → ℕ → Type 0
+Followed table n nexts i = getD nexts i 0 < n → spanAt table i .end .0 ≤ spanAt table (getD nexts i 0) .start .0
+
+unfoldable pub InOrder : List ℕ → ℕ → List ℕ → Type 0
+unfolding Followed
+InOrder table n nexts = (i : ℕ) → i < n → Followed table n nexts i

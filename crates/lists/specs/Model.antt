@@ -12,7 +12,7 @@ use Rattle.plan.specs.declared.rows.Span.{Span}
 use Rattle.plan.specs.Tables.{words, spanAt}
 
 unfoldable pub slots : ℕ
-slots = 4096
+slots = 512
 
 unfoldable pub mostRows : ℕ
 mostRows = 512

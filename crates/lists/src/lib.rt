@@ -1,6 +1,6 @@
-// The rows of a table in lists, one for each pair of nodes: the first row of the pair, and behind
-// each row the next one of its pair. Which slot a pair has is known here alone. Contacts also by the node
-// that they are from.
+// The rows of a table in lists, one for each slot, which pairs of nodes share: the first row of the slot,
+// and behind each row the next one of its slot. Which slot a pair has is known here alone. Contacts also
+// by the node that they are from.
 mod leaving;
 mod linking;
 

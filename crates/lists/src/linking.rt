@@ -1,14 +1,16 @@
-// The rows linked, from the last to the first, the first row of a pair and the next row of a row.
+// The rows linked, from the last to the first, the first row of a slot and the next row of a row.
 use plan::Span;
 use plan::span_row;
 ghost use mathlib.Core.Path.{_≡_};
-ghost use Prim.Native.Nat.{ℕ, _<_};
+ghost use Prim.Native.Nat.{ℕ, _*_, _≤_, _<_};
 ghost use lib.ListN.{length, getD};
-ghost use Rattle.lists.specs.Lists.{Linked, pairSlot, slotAt};
+ghost use Rattle.plan.specs.Tables.{words, spanAt};
+ghost use Rattle.plan.specs.Verdict.{Verdict};
+ghost use Rattle.lists.specs.Lists.{Linked, pairSlot, slotAt, InOrder};
 ghost use Rattle.lists.specs.Model.{slots, IsPair, Linkable};
 
-// How many slots there are, one for each pair of nodes: 64 × 64.
-pub const SLOTS: usize = 4096;
+// How many slots there are. Pairs of nodes share them: up to 21 nodes, each pair has one of its own.
+pub const SLOTS: usize = 512;
 
 // The most rows that are linked.
 pub const MOST_ROWS: usize = 512;
@@ -37,7 +39,7 @@ fn slot_of(s: Span) -> usize
     requires { ⌜ IsPair s ⌝ }
     ensures { λ r. ⌜ (r ≡ pairSlot s) × (r < slots) ⌝ }
 {
-    ((s.one.0 - 1) * 64 + (s.other.0 - 1)) as usize
+    ((s.one.0 - 1) * 24 + (s.other.0 - 1)) as usize % SLOTS
 }
 
 // Sets each word to that one.
@@ -51,23 +53,42 @@ pub fn fill(heads: &mut [u16], word: u16)
     }
 }
 
+// Whether the row ends no later than row `next` starts; the last one of its slot does.
+fn is_followed(table: &[u64], n: usize, row: Span, next: usize) -> bool
+    requires { ⌜ n * words ≤ length (now table) ⌝ }
+    ensures { λ t. ⌜ Verdict (next < n → row .end .0 ≤ spanAt (now (table .entry)) next .start .0) t ⌝ }
+{
+    if n <= next {
+        return true;
+    }
+    row.end.0 <= span_row(table, next).start.0
+}
+
 // Links the first n rows of a table: `heads` has the first row of each slot, and `nexts` for each row
-// the next one of its slot, with n where there is none.
-pub fn link(table: &[u64], n: usize, heads: &mut [u16], nexts: &mut [u16])
+// the next one of its slot, with n where there is none. Answers whether each row ends no later than the
+// next one of its slot starts.
+pub fn link(table: &[u64], n: usize, heads: &mut [u16], nexts: &mut [u16]) -> bool
     requires { ⌜ Linkable (now table) n (now heads) (now nexts) ⌝ }
-    ensures { λ _. ⌜ Linked (slotAt (now (table .entry))) n (now (heads .exit)) (now (nexts .exit)) × (length (now (heads .exit)) ≡ length (now (heads .entry))) × (length (now (nexts .exit)) ≡ length (now (nexts .entry))) ⌝ }
+    ensures { λ t. ⌜ Linked (slotAt (now (table .entry))) n (now (heads .exit)) (now (nexts .exit)) × (length (now (heads .exit)) ≡ length (now (heads .entry))) × (length (now (nexts .exit)) ≡ length (now (nexts .entry))) × Verdict (InOrder (now (table .entry)) n (now (nexts .exit))) t ⌝ }
 {
     fill(heads, narrow(n));
+    let mut ordered = true;
     let mut i = n;
     while 0 < i {
         i -= 1;
-        let slot = slot_of(span_row(table, i));
-        nexts[i] = heads[slot];
+        let row = span_row(table, i);
+        let slot = slot_of(row);
+        let next = heads[slot];
+        nexts[i] = next;
         heads[slot] = narrow(i);
+        if !is_followed(table, n, row, wide(next)) {
+            ordered = false;
+        }
     }
+    ordered
 }
 
-// The first row of the pair of nodes.
+// The first row of the slot of the pair of nodes.
 pub fn head_of(heads: &[u16], s: Span) -> usize
     requires { ⌜ IsPair s × (length (now heads) ≡ slots) ⌝ }
     ensures { λ r. ⌜ r ≡ getD (now (heads .entry)) (pairSlot s) 0 ⌝ }

@@ -72,6 +72,19 @@ const THREE_OF_TWO_PAIRS: [[u64; 15]; 6] = [
     [100, 130, 1, 2, 7, 131, 170, 1, 2, 9, 170, 200, 1, 2, 8],
 ];
 
+// The pair 21 34 shares its slot with the pair 1 2. A range of it stands before two that cover the
+// contact, and lasts as long or has ended; between two, of which the later one covers the contact; last.
+// It alone covers the contact; it fills the end that two leave, and the beginning. It does not count.
+const THREE_OF_ONE_SLOT: [[u64; 15]; 7] = [
+    [100, 200, 21, 34, 9, 100, 150, 1, 2, 7, 150, 200, 1, 2, 8],
+    [0, 50, 21, 34, 9, 100, 150, 1, 2, 7, 150, 200, 1, 2, 8],
+    [0, 50, 1, 2, 9, 60, 90, 21, 34, 9, 100, 200, 1, 2, 7],
+    [100, 150, 1, 2, 7, 150, 200, 1, 2, 8, 200, 300, 21, 34, 9],
+    [100, 200, 21, 34, 9, 200, 250, 1, 2, 7, 250, 300, 1, 2, 8],
+    [100, 150, 1, 2, 7, 150, 200, 21, 34, 9, 200, 300, 1, 2, 8],
+    [0, 100, 1, 2, 7, 100, 150, 21, 34, 9, 150, 300, 1, 2, 8],
+];
+
 fn light_by_two(name: &[u8], ranges: &[u64; 10], contact: &[u64]) {
     show::case(name, ranges);
     show::light_in(contact, 1, ranges, 2, ContactNo(1));
@@ -106,6 +119,7 @@ pub fn cases() {
     each_two(b"light time of 100 200 1 2 by", &NOT_COVERED, &THERE);
     each_three(b"light time of 100 200 1 2 by", &THREE_COVER, &THERE);
     each_three(b"light time of 100 200 1 2 by", &THREE_OF_TWO_PAIRS, &THERE);
+    each_three(b"light time of 100 200 1 2 by", &THREE_OF_ONE_SLOT, &THERE);
     each_two(b"light time of 100 200 2 1 by", &BOTH_COVER, &BACK);
     each_three(b"light time of 100 200 2 1 by", &THREE_OF_TWO_PAIRS, &BACK);
 }

@@ -3,10 +3,8 @@ use plan::Light;
 use units::ContactNo;
 ghost use Prim.Native.Nat.{_≤_};
 
-// The most contacts whose light times are shown, and the words beside them.
+// The most contacts whose light times are shown.
 const MOST_SHOWN: usize = 6;
-
-const PAIRS_SHOWN: usize = MOST_SHOWN * service::PAIR_WORDS;
 
 // How many words are printed at the most: those of three rows.
 const SHOWN: usize = 15;
@@ -59,9 +57,17 @@ pub fn light_in(
     requires { ⌜ (1 ≤ no .0) × (no .0 ≤ 6) × («contact_count» ≤ 6) ⌝ }
 {
     if validity::is_plan(contacts, contact_count, ranges, range_count) {
-        let mut pairs = [0; PAIRS_SHOWN];
-        service::serve(contacts, contact_count, ranges, range_count, &mut pairs);
-        light(service::light_numbered(&pairs, no));
+        let mut lights = [0u32; MOST_SHOWN];
+        let mut lefts = [0u64; MOST_SHOWN];
+        service::serve(
+            contacts,
+            contact_count,
+            ranges,
+            range_count,
+            &mut lights,
+            &mut lefts,
+        );
+        light(service::light_numbered(&lights, no));
     } else {
         io::write_all(1, b"\tno plan\n");
     }

@@ -2,7 +2,7 @@
 --     delivered-is      the word of the destination in the last row says the delivery
 --     route-none, route-late, route-best      the answer, by the tests in their order
 --     count-is          the first row that has that word is the fewest contacts
---     route-serves      the answer over the pairs that `serve` filled
+--     route-serves      the answer over the tables that `serve` filled
 --     chain-named, chain-some, chain-front      the chain chosen: its numbers name contacts, it has some, and it stands in front
 -- Assumes nothing.
 use mathlib.Core.List.{List, _++_}

@@ -39,29 +39,30 @@ pub fn first_row(words: &[u64], last: usize, v: usize, word: u64) -> usize
     last
 }
 
-// Whether the contact leads to node v below the limit, if its first node is reached as row k has it.
+// Whether the contact leads to node v below the limit, if its first node is reached as the row has it.
 fn is_leading(
     contacts: &[u64],
     contact_count: usize,
-    pairs: &[u64],
+    lights: &[u32],
+    lefts: &[u64],
     ask: Ask,
     words: &[u64],
-    k: usize,
+    row: usize,
     v: usize,
     limit: u64,
     no: ContactNo,
 ) -> bool
-    requires { ⌜ IsService (now contacts) «contact_count» (now pairs) × GoodAsk ask × InPlan (served (now contacts) «contact_count» (now pairs)) (no .0) × Each TimeWord (now words) × ((k + 1) * mostNodes ≤ length (now words)) ⌝ }
-    ensures { λ t. ⌜ t ≡ leads (networkOf (served (now (contacts .entry)) «contact_count» (now (pairs .entry))) ask) (layerOf (now (words .entry)) k) v limit (no .0) ⌝ }
+    requires { ⌜ IsService (now contacts) «contact_count» (now lights) (now lefts) × GoodAsk ask × InPlan (served (now contacts) «contact_count» (now lights) (now lefts)) (no .0) × Each TimeWord (now words) × ((row + 1) * mostNodes ≤ length (now words)) ⌝ }
+    ensures { λ t. ⌜ t ≡ leads (networkOf (served (now (contacts .entry)) «contact_count» (now (lights .entry)) (now (lefts .entry))) ask) (layerOf (now (words .entry)) row) v limit (no .0) ⌝ }
 {
-    let ends = ends_of(contacts, contact_count, pairs, no);
+    let ends = ends_of(contacts, contact_count, lights, lefts, no);
     let from = ends.from;
     let to = ends.to;
     if to != v {
         return false;
     }
-    let ready = get(words, k, from);
-    let arrival = arrive(contacts, contact_count, pairs, ask, no, ready);
+    let ready = get(words, row, from);
+    let arrival = arrive(contacts, contact_count, lights, lefts, ask, no, ready);
     if arrival == NEVER {
         return false;
     }
@@ -72,21 +73,33 @@ fn is_leading(
 fn lowest_leading(
     contacts: &[u64],
     contact_count: usize,
-    pairs: &[u64],
+    lights: &[u32],
+    lefts: &[u64],
     ask: Ask,
     words: &[u64],
-    k: usize,
+    row: usize,
     v: usize,
     limit: u64,
 ) -> ContactNo
-    requires { ⌜ IsService (now contacts) «contact_count» (now pairs) × GoodAsk ask × Each TimeWord (now words) × ((k + 1) * mostNodes ≤ length (now words)) ⌝ }
-    ensures { λ r. ⌜ r .0 ≡ lowest (networkOf (served (now (contacts .entry)) «contact_count» (now (pairs .entry))) ask) (layerOf (now (words .entry)) k) v limit ⌝ }
+    requires { ⌜ IsService (now contacts) «contact_count» (now lights) (now lefts) × GoodAsk ask × Each TimeWord (now words) × ((row + 1) * mostNodes ≤ length (now words)) ⌝ }
+    ensures { λ r. ⌜ r .0 ≡ lowest (networkOf (served (now (contacts .entry)) «contact_count» (now (lights .entry)) (now (lefts .entry))) ask) (layerOf (now (words .entry)) row) v limit ⌝ }
 {
     let mut tried: usize = 0;
     while tried < contact_count {
         tried += 1;
         let no = ContactNo(tried as u64);
-        if is_leading(contacts, contact_count, pairs, ask, words, k, v, limit, no) {
+        if is_leading(
+            contacts,
+            contact_count,
+            lights,
+            lefts,
+            ask,
+            words,
+            row,
+            v,
+            limit,
+            no,
+        ) {
             return no;
         }
     }
@@ -97,25 +110,36 @@ fn lowest_leading(
 pub fn choose(
     contacts: &[u64],
     contact_count: usize,
-    pairs: &[u64],
+    lights: &[u32],
+    lefts: &[u64],
     ask: Ask,
     words: &[u64],
     count: usize,
     delivered: u64,
     chain: &mut [u64],
 )
-    requires { ⌜ IsService (now contacts) «contact_count» (now pairs) × GoodAsk ask × Each TimeWord (now words) × ((count + 1) * mostNodes ≤ length (now words)) ⌝ }
-    requires { ⌜ ((j : ℕ) → j ≤ count → layerOf (now words) j ≡ layer (networkOf (served (now contacts) «contact_count» (now pairs)) ask) j) × (delivery (networkOf (served (now contacts) «contact_count» (now pairs)) ask) (goal ask) ≡ at delivered) × (count ≡ fewest (networkOf (served (now contacts) «contact_count» (now pairs)) ask) (goal ask)) × (count ≤ length (now chain)) × (delivered ≤ lastTime + mostLight) ⌝ }
-    ensures { λ _. ⌜ now (chain .exit) ≡ chainOf (served (now (contacts .entry)) «contact_count» (now (pairs .entry))) ask delivered ++ drop count (now (chain .entry)) ⌝ }
+    requires { ⌜ IsService (now contacts) «contact_count» (now lights) (now lefts) × GoodAsk ask × Each TimeWord (now words) × ((count + 1) * mostNodes ≤ length (now words)) ⌝ }
+    requires { ⌜ ((j : ℕ) → j ≤ count → layerOf (now words) j ≡ layer (networkOf (served (now contacts) «contact_count» (now lights) (now lefts)) ask) j) × (delivery (networkOf (served (now contacts) «contact_count» (now lights) (now lefts)) ask) (goal ask) ≡ at delivered) × (count ≡ fewest (networkOf (served (now contacts) «contact_count» (now lights) (now lefts)) ask) (goal ask)) × (count ≤ length (now chain)) × (delivered ≤ lastTime + mostLight) ⌝ }
+    ensures { λ _. ⌜ now (chain .exit) ≡ chainOf (served (now (contacts .entry)) «contact_count» (now (lights .entry)) (now (lefts .entry))) ask delivered ++ drop count (now (chain .entry)) ⌝ }
 {
     let mut k = count;
     let mut v = (ask.destination.0 - 1) as usize;
     let mut limit = Millis(delivered + 1);
     while 0 < k {
         k -= 1;
-        let no = lowest_leading(contacts, contact_count, pairs, ask, words, k, v, limit.0);
+        let no = lowest_leading(
+            contacts,
+            contact_count,
+            lights,
+            lefts,
+            ask,
+            words,
+            k,
+            v,
+            limit.0,
+        );
         chain[k] = no.0;
-        limit = back_over(contacts, contact_count, pairs, ask, no, limit);
-        v = ends_of(contacts, contact_count, pairs, no).from;
+        limit = back_over(contacts, contact_count, lights, lefts, ask, no, limit);
+        v = ends_of(contacts, contact_count, lights, lefts, no).from;
     }
 }

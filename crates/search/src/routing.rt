@@ -5,23 +5,24 @@ use crate::choice::first_row;
 use layers::NEVER;
 use layers::fill;
 use layers::get;
-use service::BLANK;
-use service::PAIRS;
+use service::BLANK_LEFT;
+use service::BLANK_LIGHT;
 use service::serve;
 use units::Ask;
 use units::MOST_CHAIN;
+use units::MOST_CONTACTS;
 use units::Millis;
 use units::Refusal;
 use validity::is_plan;
 use walk::figures_of;
 use walk::is_good_ask;
 ghost use mathlib.Core.Path.{_≡_};
-ghost use Prim.Native.Nat.{_*_, _≤_};
+ghost use Prim.Native.Nat.{_≤_};
 ghost use lib.ListN.{length};
 ghost use Rattle.units.specs.Limits.{mostContacts, mostChain};
 ghost use Rattle.plan.specs.Tables.{IsPlan, planOf};
 ghost use Rattle.service.specs.Service.{serviceOf, unused};
-ghost use Rattle.service.specs.Tables.{pairWords, served, IsService};
+ghost use Rattle.service.specs.Tables.{served, IsService};
 ghost use Rattle.walk.specs.Walk.{GoodAsk};
 ghost use Rattle.search.specs.Model.{routeModel, routeAfter};
 ghost use Rattle.search.specs.Route.{Routes};
@@ -31,15 +32,16 @@ ghost use Rattle.layers.specs.Words.{blankWords};
 fn route_in(
     contacts: &[u64],
     contact_count: usize,
-    pairs: &[u64],
+    lights: &[u32],
+    lefts: &[u64],
     ask: Ask,
     words: &mut [u64],
     chain: &mut [u64],
 ) -> Routed
-    requires { ⌜ IsService (now contacts) «contact_count» (now pairs) × GoodAsk ask × (ask .source .0 ≡ ask .destination .0 → ⊥) × (now words ≡ blankWords) × (mostChain ≤ length (now chain)) ⌝ }
-    ensures { λ r. ⌜ (r ≡ routeModel (served (now (contacts .entry)) «contact_count» (now (pairs .entry))) ask) × (now (chain .exit) ≡ routeAfter (served (now (contacts .entry)) «contact_count» (now (pairs .entry))) ask (now (chain .entry))) ⌝ }
+    requires { ⌜ IsService (now contacts) «contact_count» (now lights) (now lefts) × GoodAsk ask × (ask .source .0 ≡ ask .destination .0 → ⊥) × (now words ≡ blankWords) × (mostChain ≤ length (now chain)) ⌝ }
+    ensures { λ r. ⌜ (r ≡ routeModel (served (now (contacts .entry)) «contact_count» (now (lights .entry)) (now (lefts .entry))) ask) × (now (chain .exit) ≡ routeAfter (served (now (contacts .entry)) «contact_count» (now (lights .entry)) (now (lefts .entry))) ask (now (chain .entry))) ⌝ }
 {
-    let last = fill(contacts, contact_count, pairs, ask, words);
+    let last = fill(contacts, contact_count, lights, lefts, ask, words);
     let goal = (ask.destination.0 - 1) as usize;
     let delivered = get(words, last, goal);
     if delivered == NEVER {
@@ -52,7 +54,8 @@ fn route_in(
     choose(
         contacts,
         contact_count,
-        pairs,
+        lights,
+        lefts,
         ask,
         words,
         count,
@@ -62,7 +65,8 @@ fn route_in(
     let figures = figures_of(
         contacts,
         contact_count,
-        pairs,
+        lights,
+        lefts,
         ask,
         &chain[..count],
         Millis(delivered),
@@ -74,15 +78,24 @@ fn route_in(
 pub fn route_served(
     contacts: &[u64],
     contact_count: usize,
-    pairs: &[u64],
+    lights: &[u32],
+    lefts: &[u64],
     ask: Ask,
     chain: &mut [u64],
 ) -> Routed
-    requires { ⌜ IsService (now contacts) «contact_count» (now pairs) × GoodAsk ask × (ask .source .0 ≡ ask .destination .0 → ⊥) × (mostChain ≤ length (now chain)) ⌝ }
-    ensures { λ r. ⌜ (r ≡ routeModel (served (now (contacts .entry)) «contact_count» (now (pairs .entry))) ask) × (now (chain .exit) ≡ routeAfter (served (now (contacts .entry)) «contact_count» (now (pairs .entry))) ask (now (chain .entry))) ⌝ }
+    requires { ⌜ IsService (now contacts) «contact_count» (now lights) (now lefts) × GoodAsk ask × (ask .source .0 ≡ ask .destination .0 → ⊥) × (mostChain ≤ length (now chain)) ⌝ }
+    ensures { λ r. ⌜ (r ≡ routeModel (served (now (contacts .entry)) «contact_count» (now (lights .entry)) (now (lefts .entry))) ask) × (now (chain .exit) ≡ routeAfter (served (now (contacts .entry)) «contact_count» (now (lights .entry)) (now (lefts .entry))) ask (now (chain .entry))) ⌝ }
 {
     let mut words = [NEVER; 4096];
-    route_in(contacts, contact_count, pairs, ask, &mut words, chain)
+    route_in(
+        contacts,
+        contact_count,
+        lights,
+        lefts,
+        ask,
+        &mut words,
+        chain,
+    )
 }
 
 // The answer for a valid plan and a good ask between two nodes, by way of a table of light times and of
@@ -93,14 +106,15 @@ fn route_through(
     ranges: &[u64],
     range_count: usize,
     ask: Ask,
-    pairs: &mut [u64],
+    lights: &mut [u32],
+    lefts: &mut [u64],
     chain: &mut [u64],
 ) -> Routed
-    requires { ⌜ IsPlan (now contacts) «contact_count» (now ranges) «range_count» × GoodAsk ask × (ask .source .0 ≡ ask .destination .0 → ⊥) × (mostContacts * pairWords ≤ length (now pairs)) × (mostChain ≤ length (now chain)) ⌝ }
+    requires { ⌜ IsPlan (now contacts) «contact_count» (now ranges) «range_count» × GoodAsk ask × (ask .source .0 ≡ ask .destination .0 → ⊥) × (mostContacts ≤ length (now lights)) × (mostContacts ≤ length (now lefts)) × (mostChain ≤ length (now chain)) ⌝ }
     ensures { λ r. ⌜ (r ≡ routeModel (serviceOf (planOf (now (contacts .entry)) «contact_count» (now (ranges .entry)) «range_count») unused) ask) × (now (chain .exit) ≡ routeAfter (serviceOf (planOf (now (contacts .entry)) «contact_count» (now (ranges .entry)) «range_count») unused) ask (now (chain .entry))) ⌝ }
 {
-    serve(contacts, contact_count, ranges, range_count, pairs);
-    route_served(contacts, contact_count, pairs, ask, chain)
+    serve(contacts, contact_count, ranges, range_count, lights, lefts);
+    route_served(contacts, contact_count, lights, lefts, ask, chain)
 }
 
 // The same, with that table on the stack.
@@ -115,14 +129,16 @@ fn route_plan(
     requires { ⌜ IsPlan (now contacts) «contact_count» (now ranges) «range_count» × GoodAsk ask × (ask .source .0 ≡ ask .destination .0 → ⊥) × (mostChain ≤ length (now chain)) ⌝ }
     ensures { λ r. ⌜ (r ≡ routeModel (serviceOf (planOf (now (contacts .entry)) «contact_count» (now (ranges .entry)) «range_count») unused) ask) × (now (chain .exit) ≡ routeAfter (serviceOf (planOf (now (contacts .entry)) «contact_count» (now (ranges .entry)) «range_count») unused) ask (now (chain .entry))) ⌝ }
 {
-    let mut pairs = [BLANK; PAIRS];
+    let mut lights = [BLANK_LIGHT; MOST_CONTACTS];
+    let mut lefts = [BLANK_LEFT; MOST_CONTACTS];
     route_through(
         contacts,
         contact_count,
         ranges,
         range_count,
         ask,
-        &mut pairs,
+        &mut lights,
+        &mut lefts,
         chain,
     )
 }

@@ -1,13 +1,11 @@
 -- What is gathered of ranges that are taken one after the other: the time missing and the largest light time.
---     pair-is, pair-nodes                             a contact's pair, by the lesser and the greater node; both are nodes
---     none-left, shared-is                            what a range of the pair shares, by the tests
 --     larger-kept, larger-before, larger-now          the larger light time, by the tests
 --     Gathered                                        the time missing and the largest light time so far, with those of the ranges to come, are those of all
 -- Assumes nothing.
 use mathlib.Core.Bool.{Bool, true, false, cond}
 use mathlib.Core.List.{List, [], _∷_}
 use mathlib.Core.Path.{_≡_, refl, _∙_, subst}
-use Prim.Native.Nat.{ℕ, zero, suc, _+_, _-_, _≤_, _<_, min, max}
+use Prim.Native.Nat.{ℕ, zero, suc, _+_, _-_, _≤_, _<_, max}
 use native.Mathlib.Nat.{sub-zero}
 use native.Mathlib.Omega.{arith}
 use lib.Dec.{leb}
@@ -15,49 +13,11 @@ use borrow.Author.Tests.{eq-eqb, ne-eqb, le-leb}
 use Rattle.plan.specs.declared.rows.Contact.{Contact}
 use Rattle.plan.specs.declared.rows.Range.{Range}
 use Rattle.plan.specs.declared.light.Light.the-variants.{Of, Unranged}
-use Rattle.plan.specs.Light.{Joins, joins, sharedBy, sharedTime, largestLight, lightOf}
-use Rattle.plan.specs.Plan.{GoodContact}
+use Rattle.plan.specs.Light.{sharedBy, sharedTime, largestLight, lightOf}
 use Rattle.plan.specs.Tables.{rowsFrom}
-use Rattle.plan.specs.Verdict.{fails}
 use Rattle.plan.proofs.RowList.{rows-more}
-use Rattle.plan.proofs.Sharing.{joins-tells}
-use Rattle.plan.proofs.Verdicts.{holds-true, answers-agree}
-use Rattle.lists.specs.Model.{IsPair}
-use Rattle.service.specs.Model.{pairOf}
 
 -- ---- one range
-
-pub pair-is : (c : Contact) (low high : ℕ) → low ≡ min (c .from .0) (c .to .0) → high ≡ max (c .from .0) (c .to .0)
-    → record { start = c .start; end = c .end; one = record { 0 = low }; other = record { 0 = high } } ≡ pairOf c
-pair-is c low high el eh = rw (el, eh)
-
-pub pair-nodes : (c : Contact) → GoodContact c → IsPair (pairOf c)
-pair-nodes c g = record {
-  one-node = record { least = omega (arith, g .from-node .least, g .to-node .least); most = omega (arith, g .from-node .most) };
-  other-node = record { least = omega (arith, g .from-node .least); most = omega (arith, g .from-node .most, g .to-node .most) };
-}
-
--- an end that is no later than the start leaves nothing between them
-pub none-left : (start end : ℕ) → end ≤ start → 0 ≡ end - start
-none-left start end h = omega arith
-
-module _ (r : Range) (c : Contact) where
-  pub shared-is : Joins r c → (start end : ℕ) → start ≡ max (r .start .0) (c .start .0) → end ≡ min (r .end .0) (c .end .0) → end - start ≡ sharedBy r c
-  unfolding sharedBy
-  shared-is j start end es ee = rw (holds-true (joins-tells r c) j, es, ee)
-
-  pub shared-none : (Joins r c → ⊥) → sharedBy r c ≡ 0
-  unfolding sharedBy
-  shared-none n = rw (answers-agree (joins-tells r c) (fails n))
-
-  -- a range that ends by the contact's start shares nothing with it
-  pub shared-early : r .end .0 ≤ c .start .0 → sharedBy r c ≡ 0
-  unfolding sharedBy
-  shared-early h = go (joins r c)
-    where
-      go : (b : Bool) → cond b (min (r .end .0) (c .end .0) - max (r .start .0) (c .start .0)) 0 ≡ 0
-      go true = omega arith
-      go false = refl
 
 -- the larger light time, where at least one millisecond is shared
 abbrev pub larger : ℕ → ℕ → ℕ → ℕ

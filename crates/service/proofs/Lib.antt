@@ -2,9 +2,9 @@
 pub mod BeforeLaws
 mod GatherCode
 mod LightsCode
-pub mod PairsCode
 mod PassCode
 pub mod ServiceLaws
 mod ServingCode
+mod SharedCode
 pub mod SpendLaws
-mod SpendingCode
+pub mod TablesCode

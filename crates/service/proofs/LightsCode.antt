@@ -1,15 +1,15 @@
--- What the walk along the list of the contact's pair knows.
+-- What the walk along the list of the slot of the contact's pair knows.
 --     Walked                                          the walk along the list has come to row j, and what it gathered
---     walk-starts, walk-joins, walk-room              it begins; the range in row j is of the pair, and shares no more than is missing
+--     walk-starts, walk-good, walk-room               it begins; the range in row j is a good one, and shares no more than is missing
 --     walk-found, walk-goes, walk-ends                nothing is missing any more; it goes on to the next row, and ends
+--     walk-stops                                      it ends early, at a range behind the contact, where ranges are in order
 --     next-later                                      the next row stands behind
 --     open-none, open-covers                          it begins where no row is, or at a range that covers all of the contact
 -- Assumes nothing.
 use mathlib.Core.List.{List}
-use mathlib.Core.Logic.{inl, inr, ⊎-elim}
 use mathlib.Core.Path.{_≡_, sym, ap, ap₂, _∙_, subst}
-use Prim.Native.Nat.{ℕ, _+_, _-_, _≤_, _<_, min, max}
-use native.Mathlib.Decide.{decLt, ℕ-discrete}
+use Prim.Native.Nat.{ℕ, _+_, _-_, _≤_, _<_}
+use native.Mathlib.Decide.{ℕ-discrete}
 use native.Mathlib.Numerals.{add-one}
 use native.Mathlib.Omega.{arith}
 use lib.ListN.{getD}
@@ -23,12 +23,13 @@ use Rattle.plan.proofs.EachRow.{each-row}
 use Rattle.plan.proofs.Loops.{rows-all}
 use Rattle.plan.proofs.RowList.{rows-more, rows-done}
 use Rattle.plan.proofs.Sharing.{shared-within}
-use Rattle.lists.specs.Lists.{LeastFrom, Nexts, pairSlot, slotAt}
-use Rattle.lists.proofs.ListLaws.{pair-slot, slot-pair}
+use Rattle.lists.specs.Lists.{LeastFrom, Nexts, pairSlot, slotAt, InOrder}
+use Rattle.lists.proofs.ListLaws.{pair-slot, ordered-later}
 use Rattle.service.specs.Model.{pairOf, RangesLinked, Passed}
-use Rattle.service.proofs.GatherCode.{pair-nodes, shared-is, shared-none, shared-early, larger, larger-now, Gathered, gathered-none, gathered-room, gathered-found, gathered-out, gathered-more, gathered-over}
+use Rattle.service.proofs.GatherCode.{larger, larger-now, Gathered, gathered-none, gathered-room, gathered-found, gathered-out, gathered-more, gathered-over}
+use Rattle.service.proofs.SharedCode.{joins-pair, shared-is, shared-none, shared-early, shared-late}
 
--- ---- along the list of the contact's pair
+-- ---- along the list of the slot
 
 -- the ranges from row k on
 abbrev rangesFrom : List ℕ → ℕ → ℕ → List Range
@@ -55,30 +56,17 @@ module _ (ranges : List ℕ) (n : ℕ) (nexts : List ℕ) (c : Contact) (linked 
   good-at : (k : ℕ) → k < n → GoodRange (rangeAt ranges k)
   good-at k h = each-row GoodRange (rangeAt ranges) n (linked .good) k h
 
-  -- a range that has the slot of the contact's pair is of that pair
-  slot-joins : (k : ℕ) → k < n → slotAt ranges k ≡ pairSlot (pairOf c) → Joins (rangeAt ranges k) c
-  unfolding slotAt
-  slot-joins k h e = elim (decLt (c .from .0) (c .to .0)) [
-    | yes l ↦ inl (omega (arith, nodes .0), omega (arith, nodes .1))
-    | no l ↦ inr (omega (arith, nodes .0), omega (arith, nodes .1))
-  ]
-    where
-      nodes : (rangeAt ranges k .a .0 ≡ min (c .from .0) (c .to .0)) × (rangeAt ranges k .b .0 ≡ max (c .from .0) (c .to .0))
-      nodes =
-          slot-pair (spanAt ranges k) (pairOf c) (record { one-node = good-at k h .a-node; other-node = good-at k h .b-node }) (pair-nodes c good) e
-
-  -- and a range of that pair has that slot
+  -- a range of the contact's pair has the slot of that pair
   joins-slot : (k : ℕ) → k < n → Joins (rangeAt ranges k) c → slotAt ranges k ≡ pairSlot (pairOf c)
   unfolding slotAt
   joins-slot k h j =
-      ⊎-elim (λ x. same (omega (arith, x .0, x .1, good-at k h .order)) (omega (arith, x .0, x .1, good-at k h .order)))
-      (λ x. same (omega (arith, x .0, x .1, good-at k h .order)) (omega (arith, x .0, x .1, good-at k h .order))) j
-    where
-      same : rangeAt ranges k .a .0 ≡ min (c .from .0) (c .to .0) → rangeAt ranges k .b .0 ≡ max (c .from .0) (c .to .0)
-          → pairSlot (spanAt ranges k) ≡ pairSlot (pairOf c)
-      same one other = pair-slot (spanAt ranges k) (pairOf c) one other
+      let nodes = joins-pair (rangeAt ranges k) c (good-at k h) j in
+      pair-slot (spanAt ranges k) (pairOf c) (nodes .0) (nodes .1)
 
-  -- the ranges before the next one of the pair are passed over
+  other-shares : (k : ℕ) → k < n → (slotAt ranges k ≡ pairSlot (pairOf c) → ⊥) → sharedBy (rangeAt ranges k) c ≡ 0
+  other-shares k h other = shared-none (rangeAt ranges k) c (λ j. other (joins-slot k h j))
+
+  -- the ranges before the next one of the slot are passed over
   walk-on : (k j missing light : ℕ) → LeastFrom (slotAt ranges) k n (pairSlot (pairOf c)) j → 1 ≤ missing → Gathered all (rangesFrom ranges n k) c missing light
       → Walked ranges n c missing light j
   walk-on k j missing light l some g = record {
@@ -87,7 +75,7 @@ module _ (ranges : List ℕ) (n : ℕ) (nexts : List ℕ) (c : Contact) (linked 
     some-missing = some;
     gathered =
         gathered-over (rangeAt ranges) c n all (j - k) k j missing light (omega (arith, l .no-earlier)) (l .no-later)
-        (λ i from until. shared-none (rangeAt ranges i) c (λ x. l .least i from until (joins-slot i (omega (arith, l .no-later)) x))) g;
+        (λ i from until. other-shares i (omega (arith, l .no-later)) (l .least i from until)) g;
   }
 
   -- the ranges passed over share nothing
@@ -105,7 +93,7 @@ module _ (ranges : List ℕ) (n : ℕ) (nexts : List ℕ) (c : Contact) (linked 
       shares-none i until =
           elim (ℕ-discrete (slotAt ranges i) (pairSlot (pairOf c))) [
             | yes e ↦ shared-early (rangeAt ranges i) c (p .past i until e)
-            | no e ↦ shared-none (rangeAt ranges i) c (λ x. e (joins-slot i (omega (arith, p .no-later)) x))
+            | no e ↦ other-shares i (omega (arith, p .no-later)) e
           ]
 
   module _ (missing light j : ℕ) (so-far : Walked ranges n c missing light j) where
@@ -116,8 +104,35 @@ module _ (ranges : List ℕ) (n : ℕ) (nexts : List ℕ) (c : Contact) (linked 
 
     -- row j is r
     module _ (h : j < n) (r : Range) (er : r ≡ rangeAt ranges j) where
-      pub walk-joins : Joins r c
-      walk-joins = subst (λ (x : Range). Joins x c) (sym er) (slot-joins j h (so-far .has h))
+      pub walk-good : GoodRange r
+      walk-good = subst GoodRange (sym er) (good-at j h)
+
+      -- it starts no earlier than the contact ends, and so do all behind it
+      pub walk-stops : InOrder ranges n nexts → c .end .0 ≤ r .start .0 → Unranged ≡ lightOf all c
+      unfolding sharedTime
+      walk-stops order behind =
+          gathered-out all (rangesFrom ranges n n) c missing light
+          (gathered-over (rangeAt ranges) c n all (n - j) j n missing light (omega arith) (omega arith) shares-none (so-far .gathered))
+          (rw (rows-done (rangeAt ranges) n n (omega arith))) (so-far .some-missing)
+        where
+          late : c .end .0 ≤ rangeAt ranges j .start .0
+          late = subst (λ (x : Range). c .end .0 ≤ x .start .0) er behind
+
+          starts-late : (i : ℕ) → j ≤ i → i < n → slotAt ranges i ≡ slotAt ranges j → c .end .0 ≤ rangeAt ranges i .start .0
+          starts-late i from until e =
+              elim (ℕ-discrete j i) [
+                | yes d ↦ subst (λ (k : ℕ). c .end .0 ≤ rangeAt ranges k .start .0) d late
+                | no d ↦
+                    let after = ordered-later ranges n nexts (linked .next) (λ k m. good-at k m .starts) order j i (omega arith) until (sym e) in
+                    omega (arith, late, good-at j h .starts, after)
+              ]
+
+          shares-none : (i : ℕ) → j ≤ i → i < n → sharedBy (rangeAt ranges i) c ≡ 0
+          shares-none i from until =
+              elim (ℕ-discrete (slotAt ranges i) (pairSlot (pairOf c))) [
+                | yes e ↦ shared-late (rangeAt ranges i) c (starts-late i from until (e ∙ sym (so-far .has h)))
+                | no e ↦ other-shares i until e
+              ]
 
       -- it shares so much
       module _ (shared : ℕ) (es : shared ≡ sharedBy r c) where
@@ -153,10 +168,10 @@ module _ (ranges : List ℕ) (n : ℕ) (nexts : List ℕ) (c : Contact) (linked 
     open-none = walk-ends (c .end .0 - c .start .0) 0 j (walk-starts j p)
 
     -- its range, which is r, covers all of the contact
-    pub open-covers : j < n → (r : Range) → r ≡ rangeAt ranges j → r .start .0 ≤ c .start .0 → c .end .0 ≤ r .end .0
+    pub open-covers : j < n → (r : Range) → r ≡ rangeAt ranges j → Joins r c → r .start .0 ≤ c .start .0 → c .end .0 ≤ r .end .0
         → Of (record { 0 = r .light .0 }) ≡ lightOf all c
-    open-covers h r er before after =
+    open-covers h r er names before after =
         let shared : c .end .0 - c .start .0 ≡ sharedBy r c =
-        shared-is r c (walk-joins (c .end .0 - c .start .0) 0 j (walk-starts j p) h r er) (c .start .0) (c .end .0) (omega arith) (omega (arith, good .starts)) in
+        shared-is r c names (c .start .0) (c .end .0) (omega arith) (omega (arith, good .starts)) in
         walk-found (c .end .0 - c .start .0) 0 j (walk-starts j p) h r er (c .end .0 - c .start .0) shared (r .light .0)
         (larger-now (r .light .0) (c .end .0 - c .start .0) 0 (λ e. omega (arith, good .starts)) (omega arith)) (omega arith)

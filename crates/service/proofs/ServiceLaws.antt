@@ -9,7 +9,7 @@
 use mathlib.Core.List.{List, [], _∷_, map}
 use mathlib.Core.Logic.{_↔_}
 use mathlib.Core.Path.{_≡_, refl, sym, ap, _∙_, subst}
-use Prim.Native.Nat.{ℕ, zero, suc, _+_, _-_, _*_, _≤_, _<_}
+use Prim.Native.Nat.{ℕ, zero, suc, _+_, _-_, _≤_, _<_}
 use native.Mathlib.Nat.{zero-add, not-suc-le-zero, le-of-suc-le-suc}
 use native.Mathlib.Omega.{arith}
 use lib.ListN.{length, getD, length-map}
@@ -23,7 +23,7 @@ use Rattle.plan.specs.Tables.{rowsFrom, IsPlan, planOf}
 use Rattle.plan.proofs.Ranging.{light-most}
 use Rattle.plan.proofs.RowList.{length-rows, getD-rows}
 use Rattle.service.specs.Service.{blank, contactOf, lightIn, leftIn, volume, leftsFrom, serviceOf, InPlan, LightGood, Sound}
-use Rattle.service.specs.Tables.{pairWords, served, IsService}
+use Rattle.service.specs.Tables.{served, IsService}
 
 -- ---- what it holds for a contact
 
@@ -98,10 +98,11 @@ service-sound p v used = record {
       rw (getD-mapped (lightOf (p .ranges)) (p .contacts) k blank light below) (light-good p v (getD (p .contacts) k blank));
 }
 
-pub is-service : (contacts : List ℕ) (m : ℕ) (ranges : List ℕ) (n : ℕ) (pairs : List ℕ) (used : ℕ → ℕ) → IsPlan contacts m ranges n → m * pairWords ≤ length pairs
-    → served contacts m pairs ≡ serviceOf (planOf contacts m ranges n) used → IsService contacts m pairs
-is-service contacts m ranges n pairs used plan lent e = record {
+pub is-service : (contacts : List ℕ) (m : ℕ) (ranges : List ℕ) (n : ℕ) (lights lefts : List ℕ) (used : ℕ → ℕ) → IsPlan contacts m ranges n
+    → m ≤ length lights → m ≤ length lefts → served contacts m lights lefts ≡ serviceOf (planOf contacts m ranges n) used → IsService contacts m lights lefts
+is-service contacts m ranges n lights lefts used plan lights-lent lefts-lent e = record {
   contacts-lent = plan .contacts-lent;
-  pairs-lent = lent;
+  lights-lent = lights-lent;
+  lefts-lent = lefts-lent;
   sound = subst Sound (sym e) (service-sound (planOf contacts m ranges n) (plan .valid) used);
 }

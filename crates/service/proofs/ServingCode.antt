@@ -1,12 +1,12 @@
--- What the code that fills the pairs of words knows of the plan.
+-- What the code that fills the tables knows of the plan.
 --     volume-room                  the product that a volume is made of has room in a word
+--     word-fits                    a light time in its range has room in a word of the table
 --     ranged-word, unranged-word   the word of a light time, and of none
 --     row-good, light-in-range     a row of the plan is a good contact, and its light time is in its range
 --     ranges-linkable, ranges-listed      the ranges of the plan can be linked, and then stand in lists
 --     kept-none, none-kept         nothing is kept of the walks yet
---     Paired                       the pair beside a row says its light time and its volume
---     stored-long                  a pair stored leaves the length
---     paired-more, paired-all      one row more, and all rows: the tables hold the service
+--     Beside                       the words beside a row say its light time and its volume
+--     beside-more, beside-all      one row more, and all rows: the tables hold the service
 -- Assumes nothing.
 use mathlib.Core.List.{List, map}
 use mathlib.Core.Logic.{⊎-elim}
@@ -14,7 +14,7 @@ use mathlib.Core.Path.{_≡_, refl, sym, ap, _∙_, subst}
 use Prim.Native.Nat.{ℕ, _+_, _-_, _*_, _≤_, _<_}
 use native.Mathlib.Nat.{zero-add, sub-zero, mul-le-mul, eq-or-lt-of-le}
 use native.Mathlib.Omega.{arith}
-use lib.ListN.{length, getD, set, replicate, length-set, length-map, length-replicate, getD-replicate}
+use lib.ListN.{length, getD, set, replicate, length-map, length-replicate, getD-replicate}
 use lib.Seq.{getD-set-same, getD-set-other}
 use Rattle.units.specs.Limits.{lastTime, mostRate, mostLight, mostRanges}
 use Rattle.units.specs.declared.Millis.{Millis}
@@ -32,14 +32,20 @@ use Rattle.lists.specs.Lists.{Linked, slotAt}
 use Rattle.lists.specs.Model.{slots, mostRows, Linkable}
 use Rattle.service.specs.Model.{RangesListed, Kept, NoneKept}
 use Rattle.service.specs.Service.{blank, volume, leftsFrom, serviceOf, unused, LightGood}
-use Rattle.service.specs.Tables.{pairWords, unranged, lightWord, lightAt, leftAt, served}
-use Rattle.service.proofs.PairsCode.{word-unranged, word-ranged}
+use Rattle.service.specs.Tables.{unranged, lightWord, lightAt, leftAt, served}
+use Rattle.service.proofs.TablesCode.{word-unranged, word-ranged}
 use Rattle.service.proofs.ServiceLaws.{getD-mapped, rows-are, length-lefts, getD-lefts, light-good}
 
 pub volume-room : (c : Contact) → GoodContact c → c .rate * (c .end .0 - c .start .0) < 18_446_744_073_709_551_616
 unfolding lastTime mostRate
 volume-room c g =
     let most : c .rate * (c .end .0 - c .start .0) ≤ mostRate * lastTime = mul-le-mul {m₂ = lastTime} (g .rate-most) (omega (arith, g .ends)) in
+    omega arith
+
+pub word-fits : (light : Light) (l : Millis) → LightGood light → light ≡ Of l → l .0 < 4_294_967_296
+unfolding mostLight
+word-fits light l good e =
+    let most : l .0 ≤ mostLight = subst LightGood e good in
     omega arith
 
 pub ranged-word : (light : Light) (l : Millis) → LightGood light → light ≡ Of l → lightWord (l .0) ≡ light
@@ -94,6 +100,7 @@ module _ (contacts : List ℕ) (m : ℕ) (ranges : List ℕ) (n : ℕ) (plan : I
   ranges-listed heads′ nexts′ linked eh en = record {
     rows =
         record {
+          few = few;
           lent = plan .ranges-lent;
           good = plan .valid .ranges-good;
           apart = plan .valid .ranges-apart;
@@ -104,68 +111,50 @@ module _ (contacts : List ℕ) (m : ℕ) (ranges : List ℕ) (n : ℕ) (plan : I
     first = linked .first;
   }
 
-  pub kept-none : (rows times : List ℕ) → NoneKept rows times → Kept ranges n rows times
-  kept-none rows times none = record {
+  pub kept-none : (kept : List ℕ) → NoneKept kept → Kept ranges n kept
+  kept-none kept none = record {
     a-row-each = omega (arith, few, none .a-row-each);
-    a-time-each = omega (arith, few, none .a-time-each);
-    came = λ h m late. absurd (omega (arith, none .never h (omega (arith, few))));
+    in-list = λ h m there. absurd (omega (arith, few, none .none h (omega (arith, few))));
   }
 
-pub none-kept : (v w : ℕ) → lastTime < w → NoneKept (replicate mostRows v) (replicate mostRows w)
-none-kept v w late = record {
-  a-row-each = rw (length-replicate {A = ℕ} mostRows v) (omega arith);
-  a-time-each = rw (length-replicate {A = ℕ} mostRows w) (omega arith);
-  never = λ h m. rw (getD-replicate mostRows h w 0 m) late;
+pub none-kept : (w : ℕ) → mostRows ≤ w → NoneKept (replicate mostRows w)
+none-kept w late = record {
+  a-row-each = rw (length-replicate {A = ℕ} mostRows w) (omega arith);
+  none = λ h m. rw (getD-replicate mostRows h w 0 m) late;
 }
 
--- the pair beside row k says its light time and its volume
-pub record Paired (contacts : List ℕ) (rs : List Range) (pairs : List ℕ) (k : ℕ) : Type 0 where
-  pub light : lightAt pairs k ≡ lightOf rs (contactAt contacts k)
-  pub left : leftAt pairs k ≡ volume (contactAt contacts k)
+-- the words beside row k say its light time and its volume
+pub record Beside (contacts : List ℕ) (rs : List Range) (lights lefts : List ℕ) (k : ℕ) : Type 0 where
+  pub light : lightAt lights k ≡ lightOf rs (contactAt contacts k)
+  pub left : leftAt lefts k ≡ volume (contactAt contacts k)
 
-module _ (pairs : List ℕ) (k word left : ℕ) where
-  abbrev half : List ℕ
-  half = set pairs (k * pairWords) word
+module _ (contacts : List ℕ) (rs : List Range) (lights lefts : List ℕ) (k word left : ℕ) where
+  beside-earlier : (j : ℕ) → j < k → Beside contacts rs lights lefts j → Beside contacts rs (set lights k word) (set lefts k left) j
+  beside-earlier j h b = record {
+    light = ap lightWord (getD-set-other lights k j word 0 (omega arith)) ∙ b .light;
+    left = getD-set-other lefts k j left 0 (omega arith) ∙ b .left;
+  }
 
-  abbrev stored : List ℕ
-  stored = set half (k * pairWords + 1) left
-
-  pub stored-long : (l : ℕ) → length pairs ≡ l → (pairs′ : List ℕ) → pairs′ ≡ stored → length pairs′ ≡ l
-  stored-long l long pairs′ e = rw e (simp length-set long)
-
-  word-earlier : (i : ℕ) → i < k * pairWords → getD stored i 0 ≡ getD pairs i 0
-  word-earlier i h =
-      getD-set-other half (k * pairWords + 1) i left 0 (omega arith) ∙ getD-set-other pairs (k * pairWords) i word 0 (omega arith)
-
-  module _ (contacts : List ℕ) (rs : List Range) where
-    paired-earlier : (j : ℕ) → j < k → Paired contacts rs pairs j → Paired contacts rs stored j
-    paired-earlier j h p = record {
-      light = ap lightWord (word-earlier (j * pairWords) (omega arith)) ∙ p .light;
-      left = word-earlier (j * pairWords + 1) (omega arith) ∙ p .left;
+  module _ (lights-room : k < length lights) (lefts-room : k < length lefts) (c : Contact) (light : Light) (ec : c ≡ contactAt contacts k)
+      (el : light ≡ lightOf rs c) (ew : lightWord word ≡ light) (ef : left ≡ volume c) where
+    beside-there : Beside contacts rs (set lights k word) (set lefts k left) k
+    beside-there = record {
+      light = ap lightWord (getD-set-same lights k word 0 lights-room) ∙ ew ∙ el ∙ ap (lightOf rs) ec;
+      left = getD-set-same lefts k left 0 lefts-room ∙ ef ∙ ap volume ec;
     }
 
-    module _ (room : k * pairWords + pairWords ≤ length pairs) (c : Contact) (light : Light) (ec : c ≡ contactAt contacts k) (el : light ≡ lightOf rs c)
-        (ew : lightWord word ≡ light) (ef : left ≡ volume c) where
-      paired-there : Paired contacts rs stored k
-      paired-there =
-          let first : getD stored (k * pairWords) 0 ≡ word =
-          getD-set-other half (k * pairWords + 1) (k * pairWords) left 0 (omega arith) ∙ getD-set-same pairs (k * pairWords) word 0 (omega arith) in
-          record {
-            light = ap lightWord first ∙ ew ∙ el ∙ ap (lightOf rs) ec;
-            left = getD-set-same half (k * pairWords + 1) left 0 (simp length-set (omega arith)) ∙ ef ∙ ap volume ec;
-          }
+    pub beside-more : ((j : ℕ) → j < k → Beside contacts rs lights lefts j)
+        → (j : ℕ) → j < k + 1 → Beside contacts rs (set lights k word) (set lefts k left) j
+    beside-more before j h =
+        let at-most : j ≤ k = omega arith in
+        ⊎-elim (λ s. subst (Beside contacts rs (set lights k word) (set lefts k left)) (sym s) beside-there) (λ l. beside-earlier j l (before j l))
+        (eq-or-lt-of-le at-most)
 
-      pub paired-more : ((j : ℕ) → j < k → Paired contacts rs pairs j) → (pairs′ : List ℕ) → pairs′ ≡ stored → (j : ℕ) → j < k + 1 → Paired contacts rs pairs′ j
-      paired-more before pairs′ e j h =
-          let at-most : j ≤ k = omega arith in
-          subst (λ (t : List ℕ). Paired contacts rs t j) (sym e)
-          (⊎-elim (λ s. subst (Paired contacts rs stored) (sym s) paired-there) (λ l. paired-earlier j l (before j l)) (eq-or-lt-of-le at-most))
-
-module _ (contacts : List ℕ) (m : ℕ) (ranges : List ℕ) (n : ℕ) (pairs : List ℕ) where
-  pub paired-all : ((j : ℕ) → j < m → Paired contacts (rowsFrom (rangeAt ranges) 0 n) pairs j)
-      → served contacts m pairs ≡ serviceOf (planOf contacts m ranges n) unused
+module _ (contacts : List ℕ) (m : ℕ) (ranges : List ℕ) (n : ℕ) (lights lefts : List ℕ) where
+  pub beside-all : ((j : ℕ) → j < m → Beside contacts (rowsFrom (rangeAt ranges) 0 n) lights lefts j)
+      → served contacts m lights lefts ≡ serviceOf (planOf contacts m ranges n) unused
   unfolding served serviceOf planOf
-  paired-all all = λ i. record { contacts = rows; lights = lights-held i; lefts = lefts-held i }
+  beside-all all = λ i. record { contacts = rows; lights = lights-held i; lefts = lefts-held i }
     where
       rows : List Contact
       rows = rowsFrom (contactAt contacts) 0 m
@@ -173,12 +162,12 @@ module _ (contacts : List ℕ) (m : ℕ) (ranges : List ℕ) (n : ℕ) (pairs : 
       light : Contact → Light
       light = lightOf (rowsFrom (rangeAt ranges) 0 n)
 
-      lights-held : rowsFrom (lightAt pairs) 0 m ≡ map light rows
+      lights-held : rowsFrom (lightAt lights) 0 m ≡ map light rows
       lights-held =
-          rows-are (lightAt pairs) m (map light rows) Unranged (length-map rows light ∙ length-rows (contactAt contacts) 0 m)
+          rows-are (lightAt lights) m (map light rows) Unranged (length-map rows light ∙ length-rows (contactAt contacts) 0 m)
           (λ k h. all k h .light ∙ sym (getD-mapped light rows k blank Unranged (row-below contacts m k h) ∙ ap light (row-at contacts m k h)))
 
-      lefts-held : rowsFrom (leftAt pairs) 0 m ≡ leftsFrom unused 1 rows
+      lefts-held : rowsFrom (leftAt lefts) 0 m ≡ leftsFrom unused 1 rows
       lefts-held =
-          rows-are (leftAt pairs) m (leftsFrom unused 1 rows) 0 (length-lefts unused 1 rows ∙ length-rows (contactAt contacts) 0 m)
+          rows-are (leftAt lefts) m (leftsFrom unused 1 rows) 0 (length-lefts unused 1 rows ∙ length-rows (contactAt contacts) 0 m)
           (λ k h. all k h .left ∙ sym (getD-lefts unused 1 rows k (row-below contacts m k h) ∙ sub-zero (volume (getD rows k blank)) ∙ ap volume (row-at contacts m k h)))

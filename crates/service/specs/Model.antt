@@ -1,15 +1,15 @@
 -- What the contracts of single steps speak of. A reader of the promises may skip it.
 --     pairOf            the pair and the time of a contact, the lower node first, as a range has them
---     RangesLinked      n ranges of a plan, and behind each the next one of its pair
---     RangesListed      the same, with the first one of each pair
+--     RangesLinked      n ranges of a plan, and behind each the next one of its slot
+--     RangesListed      the same, with the first one of each slot
 --     Passed            the ranges of a list before a row end by a time
---     Kept, NoneKept    what is kept of the walks along the lists: rows and times; nothing yet
+--     Past              a range of a list ends by a time
+--     Kept, NoneKept    the rows kept of the walks along the lists; none yet
 -- Assumes nothing.
 use mathlib.Core.List.{List, map}
 use mathlib.Core.Path.{_≡_}
 use Prim.Native.Nat.{ℕ, _*_, _≤_, _<_, min, max}
 use lib.ListN.{length, getD}
-use Rattle.units.specs.Limits.{lastTime}
 use Rattle.plan.specs.declared.rows.Contact.{Contact}
 use Rattle.plan.specs.declared.rows.Span.{Span}
 use Rattle.plan.specs.Plan.{GoodRange, Overlap, Each, NoTwo, rangeSpan}
@@ -26,6 +26,7 @@ pairOf c = record {
 }
 
 pub record RangesLinked (ranges : List ℕ) (n : ℕ) (nexts : List ℕ) : Type 0 where
+  pub few : n ≤ mostRows
   pub lent : n * words ≤ length ranges
   pub good : Each GoodRange (rowsFrom (rangeAt ranges) 0 n)
   pub apart : NoTwo Overlap (map rangeSpan (rowsFrom (rangeAt ranges) 0 n))
@@ -43,13 +44,17 @@ pub record Passed (ranges : List ℕ) (n s t j : ℕ) : Type 0 where
   pub has : j < n → slotAt ranges j ≡ s
   pub past : (k : ℕ) → k < j → slotAt ranges k ≡ s → rangeAt ranges k .end .0 ≤ t
 
--- beside row h stand a row that the walk along its list came to, and the time by which the ranges before that one end; or a time that never comes
-pub record Kept (ranges : List ℕ) (n : ℕ) (rows times : List ℕ) : Type 0 where
-  pub a-row-each : n ≤ length rows
-  pub a-time-each : n ≤ length times
-  pub came : (h : ℕ) → h < n → getD times h 0 ≤ lastTime → Passed ranges n (slotAt ranges h) (getD times h 0) (getD rows h 0)
+-- row j is of slot s, and its range ends by the time t
+pub record Past (ranges : List ℕ) (n s t j : ℕ) : Type 0 where
+  pub below : j < n
+  pub has : slotAt ranges j ≡ s
+  pub ended : rangeAt ranges j .end .0 ≤ t
 
-pub record NoneKept (rows times : List ℕ) : Type 0 where
-  pub a-row-each : mostRows ≤ length rows
-  pub a-time-each : mostRows ≤ length times
-  pub never : (h : ℕ) → h < mostRows → lastTime < getD times h 0
+-- beside row h stands a row of its list, or none
+pub record Kept (ranges : List ℕ) (n : ℕ) (kept : List ℕ) : Type 0 where
+  pub a-row-each : n ≤ length kept
+  pub in-list : (h : ℕ) → h < n → getD kept h 0 < n → slotAt ranges (getD kept h 0) ≡ slotAt ranges h
+
+pub record NoneKept (kept : List ℕ) : Type 0 where
+  pub a-row-each : mostRows ≤ length kept
+  pub none : (h : ℕ) → h < mostRows → mostRows ≤ getD kept h 0

@@ -1,14 +1,11 @@
 // The plan as it serves an ask: beside each contact its light time and the bytes that are left on it.
 mod lights;
-mod pairs;
 mod serving;
-mod spending;
+mod tables;
 
-pub use pairs::BLANK;
-pub use pairs::PAIR_WORDS;
-pub use pairs::PAIRS;
-pub use pairs::UNRANGED;
-pub use pairs::left_numbered;
-pub use pairs::light_numbered;
 pub use serving::serve;
-pub use spending::spend;
+pub use tables::BLANK_LEFT;
+pub use tables::BLANK_LIGHT;
+pub use tables::UNRANGED;
+pub use tables::left_numbered;
+pub use tables::light_numbered;

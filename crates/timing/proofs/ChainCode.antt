@@ -37,68 +37,68 @@ use Rattle.timing.specs.Model.{goesOn, overContact, stepOver, onward, ca
 use Rattle.timing.proofs.Bounded.{light-good, contact-good}
 use Rattle.timing.proofs.HopLaws.{hop-bounded}
 
-module _ (contacts : List ℕ) (m : ℕ) (pairs : List ℕ) where
-  pub length-served : length (served contacts m pairs .contacts) ≡ m
+module _ (contacts : List ℕ) (m : ℕ) (lights lefts : List ℕ) where
+  pub length-served : length (served contacts m lights lefts .contacts) ≡ m
   unfolding served
   length-served = length-rows (contactAt contacts) 0 m
 
-  module _ (c : ℕ) (i : InPlan (served contacts m pairs) c) where
+  module _ (c : ℕ) (i : InPlan (served contacts m lights lefts) c) where
     named-below : c - 1 < m
     named-below = omega (arith, i .least, i .most, length-served)
 
-    pub contact-lent : contactOf (served contacts m pairs) c ≡ contactAt contacts (c - 1)
+    pub contact-lent : contactOf (served contacts m lights lefts) c ≡ contactAt contacts (c - 1)
     unfolding served
     contact-lent = getD-rows (contactAt contacts) 0 m (c - 1) blank named-below ∙ ap (contactAt contacts) (zero-add (c - 1))
 
-    pub light-lent : lightIn (served contacts m pairs) c ≡ lightAt pairs (c - 1)
+    pub light-lent : lightIn (served contacts m lights lefts) c ≡ lightAt lights (c - 1)
     unfolding served
-    light-lent = getD-rows (lightAt pairs) 0 m (c - 1) Unranged named-below ∙ ap (lightAt pairs) (zero-add (c - 1))
+    light-lent = getD-rows (lightAt lights) 0 m (c - 1) Unranged named-below ∙ ap (lightAt lights) (zero-add (c - 1))
 
-    pub left-lent : leftIn (served contacts m pairs) c ≡ leftAt pairs (c - 1)
+    pub left-lent : leftIn (served contacts m lights lefts) c ≡ leftAt lefts (c - 1)
     unfolding served
-    left-lent = getD-rows (leftAt pairs) 0 m (c - 1) 0 named-below ∙ ap (leftAt pairs) (zero-add (c - 1))
+    left-lent = getD-rows (leftAt lefts) 0 m (c - 1) 0 named-below ∙ ap (leftAt lefts) (zero-add (c - 1))
 
-module _ (contacts : List ℕ) (m : ℕ) (pairs : List ℕ) (c : ℕ) where
-  pub named-in-plan : 1 ≤ c → c ≤ m → InPlan (served contacts m pairs) c
-  named-in-plan least most = record { least = least; most = subst (λ (k : ℕ). c ≤ k) (sym (length-served contacts m pairs)) most }
+module _ (contacts : List ℕ) (m : ℕ) (lights lefts : List ℕ) (c : ℕ) where
+  pub named-in-plan : 1 ≤ c → c ≤ m → InPlan (served contacts m lights lefts) c
+  named-in-plan least most = record { least = least; most = subst (λ (k : ℕ). c ≤ k) (sym (length-served contacts m lights lefts)) most }
 
-  pub named-at-most : InPlan (served contacts m pairs) c → c ≤ m
-  named-at-most i = subst (λ (k : ℕ). c ≤ k) (length-served contacts m pairs) (i .most)
+  pub named-at-most : InPlan (served contacts m lights lefts) c → c ≤ m
+  named-at-most i = subst (λ (k : ℕ). c ≤ k) (length-served contacts m lights lefts) (i .most)
 
-  pub named-good : IsService contacts m pairs → InPlan (served contacts m pairs) c → GoodContact (contactAt contacts (c - 1))
-  named-good plan i = subst GoodContact (contact-lent contacts m pairs c i) (contact-good (served contacts m pairs) (plan .sound) c i)
+  pub named-good : IsService contacts m lights lefts → InPlan (served contacts m lights lefts) c → GoodContact (contactAt contacts (c - 1))
+  named-good plan i = subst GoodContact (contact-lent contacts m lights lefts c i) (contact-good (served contacts m lights lefts) (plan .sound) c i)
 
-  pub light-named : IsService contacts m pairs → InPlan (served contacts m pairs) c → LightGood (lightAt pairs (c - 1))
-  light-named plan i = subst LightGood (light-lent contacts m pairs c i) (light-good (served contacts m pairs) (plan .sound) c i)
+  pub light-named : IsService contacts m lights lefts → InPlan (served contacts m lights lefts) c → LightGood (lightAt lights (c - 1))
+  light-named plan i = subst LightGood (light-lent contacts m lights lefts c i) (light-good (served contacts m lights lefts) (plan .sound) c i)
 
   -- a hop over the contact that stands in the row is a hop over the contact of the plan
-  pub over-lent : InPlan (served contacts m pairs) c → (ask : Ask) (t : ℕ) (x : Contact) (l : Light) (left : ℕ) (a : Arrival)
-      → x ≡ contactAt contacts (c - 1) → l ≡ lightAt pairs (c - 1) → left ≡ leftAt pairs (c - 1) → a ≡ hopped l left x (ask .size) t
-      → a ≡ overContact (served contacts m pairs) ask c t
+  pub over-lent : InPlan (served contacts m lights lefts) c → (ask : Ask) (t : ℕ) (x : Contact) (l : Light) (left : ℕ) (a : Arrival)
+      → x ≡ contactAt contacts (c - 1) → l ≡ lightAt lights (c - 1) → left ≡ leftAt lefts (c - 1) → a ≡ hopped l left x (ask .size) t
+      → a ≡ overContact (served contacts m lights lefts) ask c t
   unfolding overContact
   over-lent i ask t x l left a ex el ef ea =
       ea
-      ∙ ap (λ (y : Light). hopped y left x (ask .size) t) (el ∙ sym (light-lent contacts m pairs c i))
-      ∙ ap (λ (y : ℕ). hopped (lightIn (served contacts m pairs) c) y x (ask .size) t) (ef ∙ sym (left-lent contacts m pairs c i))
-      ∙ ap (λ (y : Contact). hopped (lightIn (served contacts m pairs) c) (leftIn (served contacts m pairs) c) y (ask .size) t) (ex ∙ sym (contact-lent contacts m pairs c i))
+      ∙ ap (λ (y : Light). hopped y left x (ask .size) t) (el ∙ sym (light-lent contacts m lights lefts c i))
+      ∙ ap (λ (y : ℕ). hopped (lightIn (served contacts m lights lefts) c) y x (ask .size) t) (ef ∙ sym (left-lent contacts m lights lefts c i))
+      ∙ ap (λ (y : Contact). hopped (lightIn (served contacts m lights lefts) c) (leftIn (served contacts m lights lefts) c) y (ask .size) t) (ex ∙ sym (contact-lent contacts m lights lefts c i))
 
   module _ (ask : Ask) (u : ℕ) where
-    pub goes-not-least : c < 1 → false ≡ goesOn (served contacts m pairs) ask u c
+    pub goes-not-least : c < 1 → false ≡ goesOn (served contacts m lights lefts) ask u c
     unfolding goesOn
     goes-not-least h = rw (lt-leb 1 c h)
 
-    pub goes-not-most : 1 ≤ c → m < c → false ≡ goesOn (served contacts m pairs) ask u c
+    pub goes-not-most : 1 ≤ c → m < c → false ≡ goesOn (served contacts m lights lefts) ask u c
     unfolding goesOn
-    goes-not-most least h = rw (le-leb 1 c least, length-served contacts m pairs, lt-leb c m h)
+    goes-not-most least h = rw (le-leb 1 c least, length-served contacts m lights lefts, lt-leb c m h)
 
     pub goes-by : 1 ≤ c → c ≤ m → (x : Contact) (b : Bool) → x ≡ contactAt contacts (c - 1) → b ≡ isBarred ask x
-        → eqb (x .from .0) u && not b ≡ goesOn (served contacts m pairs) ask u c
+        → eqb (x .from .0) u && not b ≡ goesOn (served contacts m lights lefts) ask u c
     unfolding goesOn
     goes-by least most x b ex eb =
-        let same : x ≡ contactOf (served contacts m pairs) c = ex ∙ sym (contact-lent contacts m pairs c (named-in-plan least most)) in
-        let reads : eqb (x .from .0) u && not (isBarred ask x) ≡ eqb (contactOf (served contacts m pairs) c .from .0) u && not (isBarred ask (contactOf (served contacts m pairs) c)) =
+        let same : x ≡ contactOf (served contacts m lights lefts) c = ex ∙ sym (contact-lent contacts m lights lefts c (named-in-plan least most)) in
+        let reads : eqb (x .from .0) u && not (isBarred ask x) ≡ eqb (contactOf (served contacts m lights lefts) c .from .0) u && not (isBarred ask (contactOf (served contacts m lights lefts) c)) =
         ap (λ (y : Contact). eqb (y .from .0) u && not (isBarred ask y)) same in
-        rw (le-leb 1 c least, length-served contacts m pairs, le-leb c m most, eb) reads
+        rw (le-leb 1 c least, length-served contacts m lights lefts, le-leb c m most, eb) reads
 
 -- the parts of a test that passes
 both-pass : (a b : Bool) → a && b ≡ true → (a ≡ true) × (b ≡ true)
@@ -188,13 +188,13 @@ module _ (p : Service) (ask : Ask) (u t : ℕ) (chain : List ℕ) (i : ℕ) wher
   carry-misses h e = ap (carry p ask u t) (drop-of-length-le chain h) ∙ rw (ne-eqb u (ask .destination .0) e)
 
 -- the step on along a chain, where the contact was read from its row
-pub carry-lent : (contacts : List ℕ) (m : ℕ) (pairs : List ℕ) (ask : Ask) (u t : ℕ) (chain : List ℕ) (i : ℕ) (s : Millis) (x : Contact)
+pub carry-lent : (contacts : List ℕ) (m : ℕ) (lights lefts : List ℕ) (ask : Ask) (u t : ℕ) (chain : List ℕ) (i : ℕ) (s : Millis) (x : Contact)
     → i < length chain
-    → stepOver (served contacts m pairs) ask u t (getD chain i 0) ≡ Ready s
+    → stepOver (served contacts m lights lefts) ask u t (getD chain i 0) ≡ Ready s
     → x ≡ contactAt contacts (getD chain i 0 - 1)
-    → carry (served contacts m pairs) ask u t (drop i chain) ≡ carry (served contacts m pairs) ask (x .to .0) (s .0) (drop (i + 1) chain)
-carry-lent contacts m pairs ask u t chain i s x h e ex =
-    let p : Service = served contacts m pairs in
+    → carry (served contacts m lights lefts) ask u t (drop i chain) ≡ carry (served contacts m lights lefts) ask (x .to .0) (s .0) (drop (i + 1) chain)
+carry-lent contacts m lights lefts ask u t chain i s x h e ex =
+    let p : Service = served contacts m lights lefts in
     carry-goes p ask u t chain i s h e
     ∙ ap (λ (y : Contact). carry p ask (y .to .0) (s .0) (drop (i + 1) chain))
-    (contact-lent contacts m pairs (getD chain i 0) (steps-in-plan p ask u t (getD chain i 0) s e) ∙ sym ex)
+    (contact-lent contacts m lights lefts (getD chain i 0) (steps-in-plan p ask u t (getD chain i 0) s e) ∙ sym ex)

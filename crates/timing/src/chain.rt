@@ -10,7 +10,7 @@ use units::ContactNo;
 use units::Millis;
 use units::NodeNo;
 ghost use mathlib.Core.Path.{_≡_};
-ghost use Prim.Native.Nat.{_+_, _*_, _≤_};
+ghost use Prim.Native.Nat.{_+_, _≤_};
 ghost use lib.ListN.{length};
 ghost use Rattle.units.specs.Limits.{IsNode, mostSize, lastTime, mostLight};
 ghost use Rattle.plan.specs.Plan.{GoodContact};
@@ -41,13 +41,14 @@ pub fn is_barred(ask: Ask, c: Contact) -> bool
 pub fn goes_on(
     contacts: &[u64],
     contact_count: usize,
-    pairs: &[u64],
+    lights: &[u32],
+    lefts: &[u64],
     ask: Ask,
     node: NodeNo,
     no: ContactNo,
 ) -> bool
-    requires { ⌜ IsService (now contacts) «contact_count» (now pairs) ⌝ }
-    ensures { λ t. ⌜ t ≡ goesOn (served (now (contacts .entry)) «contact_count» (now (pairs .entry))) ask (node .0) (no .0) ⌝ }
+    requires { ⌜ IsService (now contacts) «contact_count» (now lights) (now lefts) ⌝ }
+    ensures { λ t. ⌜ t ≡ goesOn (served (now (contacts .entry)) «contact_count» (now (lights .entry)) (now (lefts .entry))) ask (node .0) (no .0) ⌝ }
 {
     if no.0 < 1 {
         return false;
@@ -63,17 +64,18 @@ pub fn goes_on(
 pub fn over(
     contacts: &[u64],
     contact_count: usize,
-    pairs: &[u64],
+    lights: &[u32],
+    lefts: &[u64],
     ask: Ask,
     no: ContactNo,
     ready: Millis,
 ) -> Arrival
-    requires { ⌜ IsService (now contacts) «contact_count» (now pairs) × InPlan (served (now contacts) «contact_count» (now pairs)) (no .0) × (ask .size ≤ mostSize) × (ready .0 ≤ lastTime + mostLight) ⌝ }
-    ensures { λ r. ⌜ r ≡ overContact (served (now (contacts .entry)) «contact_count» (now (pairs .entry))) ask (no .0) (ready .0) ⌝ }
+    requires { ⌜ IsService (now contacts) «contact_count» (now lights) (now lefts) × InPlan (served (now contacts) «contact_count» (now lights) (now lefts)) (no .0) × (ask .size ≤ mostSize) × (ready .0 ≤ lastTime + mostLight) ⌝ }
+    ensures { λ r. ⌜ r ≡ overContact (served (now (contacts .entry)) «contact_count» (now (lights .entry)) (now (lefts .entry))) ask (no .0) (ready .0) ⌝ }
 {
     let c = contact_numbered(contacts, no);
-    let light = light_numbered(pairs, no);
-    hop_over(light, left_numbered(pairs, no), c, ask.size, ready)
+    let light = light_numbered(lights, no);
+    hop_over(light, left_numbered(lefts, no), c, ask.size, ready)
 }
 
 // When the file, ready at `node` at `ready`, is ready behind the contact of that number: never where
@@ -81,17 +83,18 @@ pub fn over(
 pub fn step(
     contacts: &[u64],
     contact_count: usize,
-    pairs: &[u64],
+    lights: &[u32],
+    lefts: &[u64],
     ask: Ask,
     node: NodeNo,
     ready: Millis,
     no: ContactNo,
 ) -> Arrival
-    requires { ⌜ IsService (now contacts) «contact_count» (now pairs) × (ask .size ≤ mostSize) × (ready .0 ≤ lastTime + mostLight) ⌝ }
-    ensures { λ r. ⌜ r ≡ stepOver (served (now (contacts .entry)) «contact_count» (now (pairs .entry))) ask (node .0) (ready .0) (no .0) ⌝ }
+    requires { ⌜ IsService (now contacts) «contact_count» (now lights) (now lefts) × (ask .size ≤ mostSize) × (ready .0 ≤ lastTime + mostLight) ⌝ }
+    ensures { λ r. ⌜ r ≡ stepOver (served (now (contacts .entry)) «contact_count» (now (lights .entry)) (now (lefts .entry))) ask (node .0) (ready .0) (no .0) ⌝ }
 {
-    if goes_on(contacts, contact_count, pairs, ask, node, no) {
-        over(contacts, contact_count, pairs, ask, no, ready)
+    if goes_on(contacts, contact_count, lights, lefts, ask, node, no) {
+        over(contacts, contact_count, lights, lefts, ask, no, ready)
     } else {
         Arrival::Never
     }
@@ -102,19 +105,20 @@ pub fn step(
 pub fn delivery(
     contacts: &[u64],
     contact_count: usize,
-    pairs: &[u64],
+    lights: &[u32],
+    lefts: &[u64],
     ask: Ask,
     chain: &[u64],
 ) -> Arrival
-    requires { ⌜ IsService (now contacts) «contact_count» (now pairs) × (ask .size ≤ mostSize) × (ask .time .0 ≤ lastTime) ⌝ }
-    ensures { λ r. ⌜ r ≡ deliveryOf (served (now (contacts .entry)) «contact_count» (now (pairs .entry))) ask (now (chain .entry)) ⌝ }
+    requires { ⌜ IsService (now contacts) «contact_count» (now lights) (now lefts) × (ask .size ≤ mostSize) × (ask .time .0 ≤ lastTime) ⌝ }
+    ensures { λ r. ⌜ r ≡ deliveryOf (served (now (contacts .entry)) «contact_count» (now (lights .entry)) (now (lefts .entry))) ask (now (chain .entry)) ⌝ }
 {
     let mut node = ask.source;
     let mut ready = ask.time;
     let mut i = 0;
     while i < chain.len() {
         let no = ContactNo(chain[i]);
-        let arrival = step(contacts, contact_count, pairs, ask, node, ready, no);
+        let arrival = step(contacts, contact_count, lights, lefts, ask, node, ready, no);
         let Arrival::Ready(t) = arrival else {
             return Arrival::Never;
         };

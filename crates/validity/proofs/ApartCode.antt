@@ -1,6 +1,5 @@
 -- What the code knows that judges whether rows overlap.
 --     below-none, below-goes, below-stops, below-ends      what is asked of each row, row by row
---     followed-last, followed-tells            a row that is the last of its pair, and one that is not
 --     Cleared                                  the walk along the later rows of row i has come to row j
 --     clear-starts, clear-stops, clear-goes, clear-ends      it begins, meets an overlap, goes on, ends
 --     order-apart                              rows that are in order are apart
@@ -9,11 +8,10 @@
 -- Assumes nothing.
 use mathlib.Core.Bool.{Bool, true, false}
 use mathlib.Core.List.{List}
-use mathlib.Core.Path.{_≡_, sym, ap, _∙_, subst}
+use mathlib.Core.Path.{_≡_, sym}
 use Prim.Native.Nat.{ℕ, suc, _+_, _≤_, _<_}
 use native.Mathlib.Omega.{arith}
 use borrow.Author.Count.{below-more}
-use lib.Dec.{leb}
 use lib.ListN.{getD}
 use Rattle.plan.specs.declared.rows.Span.{Span}
 use Rattle.plan.specs.Model.{overlap}
@@ -22,10 +20,10 @@ use Rattle.plan.specs.Tables.{spanAt, rowsFrom}
 use Rattle.plan.specs.Verdict.{Verdict, holds, fails}
 use Rattle.plan.proofs.EachRow.{rows-noTwo, noTwo-row}
 use Rattle.plan.proofs.Tests.{overlap-tells}
-use Rattle.plan.proofs.Verdicts.{tells-le, restated, true-holds, false-fails}
-use Rattle.lists.specs.Lists.{Nexts, slotAt}
-use Rattle.lists.proofs.ListLaws.{slot-same, Along, along-starts, along-goes, along-ends, chained}
-use Rattle.validity.specs.Model.{Below, Starts, Followed, InOrder, ClearAfter, Apart}
+use Rattle.plan.proofs.Verdicts.{restated, true-holds, false-fails}
+use Rattle.lists.specs.Lists.{Nexts, slotAt, InOrder}
+use Rattle.lists.proofs.ListLaws.{slot-same, Along, along-starts, along-goes, along-ends, ordered-later}
+use Rattle.validity.specs.Model.{Below, Starts, ClearAfter, Apart}
 
 module _ (P : ℕ → Type 0) where
   pub below-none : Below P 0
@@ -46,26 +44,7 @@ module _ (P : ℕ → Type 0) where
   unfolding Below
   below-ends i n h all = holds (λ k l. all k (omega arith))
 
-module _ (table : List ℕ) (n : ℕ) (nexts : List ℕ) (i next : ℕ) (en : next ≡ getD nexts i 0) where
-  pub followed-last : n ≤ next → Verdict (Followed table n nexts i) true
-  unfolding Followed
-  followed-last h = holds (λ l. absurd (omega arith))
-
-  pub followed-tells : next < n → (one other : Span) → one ≡ spanAt table i → other ≡ spanAt table next
-      → Verdict (Followed table n nexts i) (leb (one .end .0) (other .start .0))
-  unfolding Followed
-  followed-tells h one other eo et =
-      restated (λ l _. subst (λ (m : ℕ). m ≤ spanAt table (getD nexts i 0) .start .0) ends (subst (λ (m : ℕ). one .end .0 ≤ m) starts l))
-      (λ f. subst (λ (m : ℕ). one .end .0 ≤ m) (sym starts) (subst (λ (m : ℕ). m ≤ spanAt table (getD nexts i 0) .start .0) (sym ends) (f (omega arith))))
-      (tells-le (one .end .0) (other .start .0))
-    where
-      ends : one .end .0 ≡ spanAt table i .end .0
-      ends = ap (λ (s : Span). s .end .0) eo
-
-      starts : other .start .0 ≡ spanAt table (getD nexts i 0) .start .0
-      starts = ap (λ (s : Span). s .start .0) (et ∙ ap (spanAt table) en)
-
--- none of the later rows of the pair of row i, before row j, overlaps it
+-- none of the later rows of the slot of row i, before row j, overlaps it
 abbrev pub Cleared : List ℕ → ℕ → ℕ → ℕ → Type 0
 Cleared table n i j = Along (slotAt table) (λ k. Overlap (spanAt table i) (spanAt table k) → ⊥) (suc i) n (slotAt table i) j
 
@@ -98,13 +77,12 @@ module _ (table : List ℕ) (n : ℕ) (nexts : List ℕ) (linked : Nexts (slotAt
         holds
         (λ k l m o. along-ends (slotAt table) Free (suc i) n (slotAt table i) j so-far h k l m (sym (slot-same table i k (o .one-same) (o .other-same))) o)
 
--- a row of the pair starts where the one before it ended, or later
+-- two rows of a pair have one slot
 pub order-apart : (table : List ℕ) (n : ℕ) (nexts : List ℕ) → Nexts (slotAt table) n nexts → Starts table n → InOrder table n nexts → Apart table n
-unfolding Apart Below ClearAfter InOrder Followed Starts
+unfolding Apart Below ClearAfter Starts
 order-apart table n nexts linked starts order i hi k l h o =
     let after : spanAt table i .end .0 ≤ spanAt table k .start .0 =
-    chained (slotAt table) n nexts linked (λ i k. spanAt table i .end .0 ≤ spanAt table k .start .0) order
-    (λ i j k m x y. omega (arith, starts j m)) i k l h (slot-same table i k (o .one-same) (o .other-same)) in
+    ordered-later table n nexts linked starts order i k l h (slot-same table i k (o .one-same) (o .other-same)) in
     omega (arith, o .y-before)
 
 module _ (table : List ℕ) (n : ℕ) where

@@ -3,13 +3,12 @@
 --     Starts, GoodSpans    each row starts before it ends; besides, its nodes are nodes, and the rows are there
 --     Room                 there are words for the lists of the most rows
 --     Listed               a table has n rows, and each has a word for its next one
---     Followed, InOrder    a row ends no later than the next one of its pair starts; each does
 --     ClearAfter, Apart    no later row overlaps a row; none of the rows overlaps a later one
 -- Assumes nothing.
 use mathlib.Core.List.{List}
 use mathlib.Core.Path.{_≡_}
 use Prim.Native.Nat.{ℕ, _*_, _≤_, _<_}
-use lib.ListN.{length, getD}
+use lib.ListN.{length}
 use Rattle.plan.specs.Plan.{Overlap}
 use Rattle.plan.specs.Tables.{words, spanAt}
 use Rattle.lists.specs.Model.{slots, mostRows, IsPair}
@@ -34,13 +33,6 @@ pub record Room (heads nexts : List ℕ) : Type 0 where
 pub record Listed (table : List ℕ) (n : ℕ) (nexts : List ℕ) : Type 0 where
   pub lent : n * words ≤ length table
   pub a-row-each : n ≤ length nexts
-
-unfoldable pub Followed : List ℕ → ℕ → List ℕ → ℕ → Type 0
-Followed table n nexts i = getD nexts i 0 < n → spanAt table i .end .0 ≤ spanAt table (getD nexts i 0) .start .0
-
-unfoldable pub InOrder : List ℕ → ℕ → List ℕ → Type 0
-unfolding Below Followed
-InOrder table n nexts = Below (Followed table n nexts) n
 
 unfoldable pub ClearAfter : List ℕ → ℕ → ℕ → Type 0
 ClearAfter table n i = (j : ℕ) → i < j → j < n → Overlap (spanAt table i) (spanAt table j) → ⊥

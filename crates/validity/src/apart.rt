@@ -1,4 +1,4 @@
-// Whether no two rows of a table overlap, along the rows of each pair: first by the order of the rows
+// Whether no two rows of a table overlap, along the rows of each slot: first by the order of the rows
 // that follow each other, and only where they are out of order by each row with each one behind it.
 use lists::BLANK;
 use lists::MOST_ROWS;
@@ -10,38 +10,9 @@ use plan::span_row;
 ghost use Prim.Native.Nat.{_<_};
 ghost use Rattle.plan.specs.Verdict.{Verdict};
 ghost use Rattle.lists.specs.Lists.{Nexts, slotAt};
-ghost use Rattle.validity.specs.Model.{GoodSpans, Room, Listed, Followed, InOrder, ClearAfter, Apart};
+ghost use Rattle.validity.specs.Model.{GoodSpans, Room, Listed, ClearAfter, Apart};
 
-// Whether row i ends no later than the next row of its pair starts; the last one does.
-fn is_followed(table: &[u64], n: usize, nexts: &[u16], i: usize) -> bool
-    requires { ⌜ Listed (now table) n (now nexts) × (i < n) ⌝ }
-    ensures { λ t. ⌜ Verdict (Followed (now (table .entry)) n (now (nexts .entry)) i) t ⌝ }
-{
-    let next = next_of(nexts, i);
-    if n <= next {
-        return true;
-    }
-    let one = span_row(table, i);
-    let other = span_row(table, next);
-    one.end.0 <= other.start.0
-}
-
-// Whether each row does.
-fn are_in_order(table: &[u64], n: usize, nexts: &[u16]) -> bool
-    requires { ⌜ Listed (now table) n (now nexts) ⌝ }
-    ensures { λ t. ⌜ Verdict (InOrder (now (table .entry)) n (now (nexts .entry))) t ⌝ }
-{
-    let mut i = 0;
-    while i < n {
-        if !is_followed(table, n, nexts, i) {
-            return false;
-        }
-        i += 1;
-    }
-    true
-}
-
-// Whether no later row overlaps row i: those of its pair are looked at.
+// Whether no later row overlaps row i: those of its slot are looked at.
 fn is_clear_after(table: &[u64], n: usize, nexts: &[u16], i: usize) -> bool
     requires { ⌜ Listed (now table) n (now nexts) × Nexts (slotAt (now table)) n (now nexts) × (i < n) ⌝ }
     ensures { λ t. ⌜ Verdict (ClearAfter (now (table .entry)) n i) t ⌝ }
@@ -77,8 +48,7 @@ fn are_apart(table: &[u64], n: usize, heads: &mut [u16], nexts: &mut [u16]) -> b
     requires { ⌜ GoodSpans (now table) n × Room (now heads) (now nexts) ⌝ }
     ensures { λ t. ⌜ Verdict (Apart (now (table .entry)) n) t ⌝ }
 {
-    link(table, n, heads, nexts);
-    if are_in_order(table, n, nexts) {
+    if link(table, n, heads, nexts) {
         return true;
     }
     are_clear(table, n, nexts)

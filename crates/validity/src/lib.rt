@@ -1,4 +1,4 @@
-// Whether lent tables hold a valid plan. How a plan is found valid, along the rows of each pair, is in
+// Whether lent tables hold a valid plan. How a plan is found valid, along the rows of each slot, is in
 // no promise.
 mod apart;
 mod good;

@@ -41,65 +41,65 @@ use Rattle.walk.specs.declared.cause.Judged.the-variants.{Good, Fault}
 use Rattle.walk.specs.Model.{judgedHop, judgedNamed, judged, causeFrom}
 use Rattle.walk.proofs.CauseLaws.{judged-passes}
 
-module _ (contacts : List ℕ) (m : ℕ) (pairs : List ℕ) (c : ℕ) where
-  module _ (l : InPlan (served contacts m pairs) c) (ask : Ask) (t i : ℕ) where
-    module _ (x : Light) (ex : x ≡ lightAt pairs (c - 1)) where
-      read-light : lightIn (served contacts m pairs) c ≡ x
-      read-light = light-lent contacts m pairs c l ∙ sym ex
+module _ (contacts : List ℕ) (m : ℕ) (lights lefts : List ℕ) (c : ℕ) where
+  module _ (l : InPlan (served contacts m lights lefts) c) (ask : Ask) (t i : ℕ) where
+    module _ (x : Light) (ex : x ≡ lightAt lights (c - 1)) where
+      read-light : lightIn (served contacts m lights lefts) c ≡ x
+      read-light = light-lent contacts m lights lefts c l ∙ sym ex
 
-      pub hop-unranged : x ≡ Unranged → Fault (NotRanged i) ≡ judgedHop (served contacts m pairs) ask t i c
+      pub hop-unranged : x ≡ Unranged → Fault (NotRanged i) ≡ judgedHop (served contacts m lights lefts) ask t i c
       unfolding judgedHop
       hop-unranged e = rw (read-light, e)
 
-      pub hop-unfit : (y : Millis) (a : Arrival) → x ≡ Of y → a ≡ overContact (served contacts m pairs) ask c t → a ≡ Never
-          → Fault (NotFitting i) ≡ judgedHop (served contacts m pairs) ask t i c
+      pub hop-unfit : (y : Millis) (a : Arrival) → x ≡ Of y → a ≡ overContact (served contacts m lights lefts) ask c t → a ≡ Never
+          → Fault (NotFitting i) ≡ judgedHop (served contacts m lights lefts) ask t i c
       unfolding judgedHop
       hop-unfit y a e ea en = rw (read-light, e, sym ea, en)
 
-      pub hop-good : (y s : Millis) (a : Arrival) → x ≡ Of y → a ≡ overContact (served contacts m pairs) ask c t → a ≡ Ready s
-          → Good s ≡ judgedHop (served contacts m pairs) ask t i c
+      pub hop-good : (y s : Millis) (a : Arrival) → x ≡ Of y → a ≡ overContact (served contacts m lights lefts) ask c t → a ≡ Ready s
+          → Good s ≡ judgedHop (served contacts m lights lefts) ask t i c
       unfolding judgedHop
       hop-good y s a e ea er = rw (read-light, e, sym ea, er)
 
     module _ (u : ℕ) (x : Contact) (ex : x ≡ contactAt contacts (c - 1)) where
-      read-contact : contactOf (served contacts m pairs) c ≡ x
-      read-contact = contact-lent contacts m pairs c l ∙ sym ex
+      read-contact : contactOf (served contacts m lights lefts) c ≡ x
+      read-contact = contact-lent contacts m lights lefts c l ∙ sym ex
 
-      read-from : contactOf (served contacts m pairs) c .from .0 ≡ x .from .0
+      read-from : contactOf (served contacts m lights lefts) c .from .0 ≡ x .from .0
       read-from = ap (λ (y : Contact). y .from .0) read-contact
 
-      pub named-apart : (x .from .0 ≡ u → ⊥) → Fault (NotJoined i) ≡ judgedNamed (served contacts m pairs) ask u t i c
+      pub named-apart : (x .from .0 ≡ u → ⊥) → Fault (NotJoined i) ≡ judgedNamed (served contacts m lights lefts) ask u t i c
       unfolding judgedNamed
-      named-apart n = rw (ne-eqb (contactOf (served contacts m pairs) c .from .0) u (λ e. n (sym read-from ∙ e)))
+      named-apart n = rw (ne-eqb (contactOf (served contacts m lights lefts) c .from .0) u (λ e. n (sym read-from ∙ e)))
 
       module _ (j : x .from .0 ≡ u) (b : Bool) (eb : b ≡ isBarred ask x) where
-        joined : eqb (contactOf (served contacts m pairs) c .from .0) u ≡ true
-        joined = eq-eqb (contactOf (served contacts m pairs) c .from .0) u (read-from ∙ j)
+        joined : eqb (contactOf (served contacts m lights lefts) c .from .0) u ≡ true
+        joined = eq-eqb (contactOf (served contacts m lights lefts) c .from .0) u (read-from ∙ j)
 
-        read-barred : isBarred ask (contactOf (served contacts m pairs) c) ≡ b
+        read-barred : isBarred ask (contactOf (served contacts m lights lefts) c) ≡ b
         read-barred = ap (isBarred ask) read-contact ∙ sym eb
 
-        pub named-barred : b ≡ true → Fault (ExcludedNode i) ≡ judgedNamed (served contacts m pairs) ask u t i c
+        pub named-barred : b ≡ true → Fault (ExcludedNode i) ≡ judgedNamed (served contacts m lights lefts) ask u t i c
         unfolding judgedNamed
         named-barred e = rw (joined, read-barred, e)
 
-        pub named-hops : b ≡ false → (r : Judged) → r ≡ judgedHop (served contacts m pairs) ask t i c
-            → r ≡ judgedNamed (served contacts m pairs) ask u t i c
+        pub named-hops : b ≡ false → (r : Judged) → r ≡ judgedHop (served contacts m lights lefts) ask t i c
+            → r ≡ judgedNamed (served contacts m lights lefts) ask u t i c
         unfolding judgedNamed
         named-hops e r er = rw (joined, read-barred, e) er
 
   module _ (b : Bool) (eb : b ≡ leb 1 c && leb c m) where
-    pub is-in-plan : b ≡ true → InPlan (served contacts m pairs) c
-    is-in-plan e = let named = true-holds (both (tells-le 1 c) (tells-le c m)) (sym eb ∙ e) in named-in-plan contacts m pairs c (named .0) (named .1)
+    pub is-in-plan : b ≡ true → InPlan (served contacts m lights lefts) c
+    is-in-plan e = let named = true-holds (both (tells-le 1 c) (tells-le c m)) (sym eb ∙ e) in named-in-plan contacts m lights lefts c (named .0) (named .1)
 
-    pub not-named : (ask : Ask) (u t i : ℕ) → b ≡ false → Fault (NoContact i) ≡ judged (served contacts m pairs) ask u t i c
+    pub not-named : (ask : Ask) (u t i : ℕ) → b ≡ false → Fault (NoContact i) ≡ judged (served contacts m lights lefts) ask u t i c
     unfolding judged
-    not-named ask u t i e = rw (length-served contacts m pairs, sym eb, e)
+    not-named ask u t i e = rw (length-served contacts m lights lefts, sym eb, e)
 
-    pub judged-named : (ask : Ask) (u t i : ℕ) → b ≡ true → (r : Judged) → r ≡ judgedNamed (served contacts m pairs) ask u t i c
-        → r ≡ judged (served contacts m pairs) ask u t i c
+    pub judged-named : (ask : Ask) (u t i : ℕ) → b ≡ true → (r : Judged) → r ≡ judgedNamed (served contacts m lights lefts) ask u t i c
+        → r ≡ judged (served contacts m lights lefts) ask u t i c
     unfolding judged
-    judged-named ask u t i e r er = rw (length-served contacts m pairs, sym eb, e) er
+    judged-named ask u t i e r er = rw (length-served contacts m lights lefts, sym eb, e) er
 
 module _ (p : Service) (ask : Ask) (u t : ℕ) where
   pub judged-in-plan : (i c : ℕ) (s : Millis) → judged p ask u t i c ≡ Good s → InPlan p c
@@ -132,13 +132,13 @@ module _ (p : Service) (ask : Ask) (u t : ℕ) where
     cause-ends h l = rw (drop-of-length-le chain l) (ap EndsElsewhere (le-antisymm h l))
 
 -- the step on along a chain, where the contact was read from its row
-pub cause-lent : (contacts : List ℕ) (m : ℕ) (pairs : List ℕ) (ask : Ask) (u t : ℕ) (chain : List ℕ) (i : ℕ) (s : Millis) (x : Contact)
+pub cause-lent : (contacts : List ℕ) (m : ℕ) (lights lefts : List ℕ) (ask : Ask) (u t : ℕ) (chain : List ℕ) (i : ℕ) (s : Millis) (x : Contact)
     → i < length chain
-    → judged (served contacts m pairs) ask u t (i + 1) (getD chain i 0) ≡ Good s
+    → judged (served contacts m lights lefts) ask u t (i + 1) (getD chain i 0) ≡ Good s
     → x ≡ contactAt contacts (getD chain i 0 - 1)
-    → causeFrom (served contacts m pairs) ask u t i (drop i chain) ≡ causeFrom (served contacts m pairs) ask (x .to .0) (s .0) (i + 1) (drop (i + 1) chain)
-cause-lent contacts m pairs ask u t chain i s x h e ex =
-    let p : Service = served contacts m pairs in
+    → causeFrom (served contacts m lights lefts) ask u t i (drop i chain) ≡ causeFrom (served contacts m lights lefts) ask (x .to .0) (s .0) (i + 1) (drop (i + 1) chain)
+cause-lent contacts m lights lefts ask u t chain i s x h e ex =
+    let p : Service = served contacts m lights lefts in
     cause-goes p ask u t chain i h s e
     ∙ ap (λ (y : Contact). causeFrom p ask (y .to .0) (s .0) (i + 1) (drop (i + 1) chain))
-    (contact-lent contacts m pairs (getD chain i 0) (judged-in-plan p ask u t (i + 1) (getD chain i 0) s e) ∙ sym ex)
+    (contact-lent contacts m lights lefts (getD chain i 0) (judged-in-plan p ask u t (i + 1) (getD chain i 0) s e) ∙ sym ex)

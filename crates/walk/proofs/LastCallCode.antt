@@ -24,15 +24,15 @@ use Rattle.walk.specs.Model.{limitOver, limitBefore}
 use Rattle.timing.proofs.ChainCode.{contact-lent, light-lent, left-lent}
 use Rattle.walk.proofs.LastCallLaws.{limit-append}
 
-pub back-lent : (contacts : List ℕ) (m : ℕ) (pairs : List ℕ) (c : ℕ) → InPlan (served contacts m pairs) c → (ask : Ask) (limit : ℕ) (x : Contact) (l : Light) (left r : ℕ)
-    → x ≡ contactAt contacts (c - 1) → l ≡ lightAt pairs (c - 1) → left ≡ leftAt pairs (c - 1) → r ≡ backOver l left x (ask .size) limit
-    → r ≡ limitOver (served contacts m pairs) ask c limit
-back-lent contacts m pairs c i ask limit x l left r ex el ef er =
+pub back-lent : (contacts : List ℕ) (m : ℕ) (lights lefts : List ℕ) (c : ℕ) → InPlan (served contacts m lights lefts) c → (ask : Ask) (limit : ℕ) (x : Contact) (l : Light) (left r : ℕ)
+    → x ≡ contactAt contacts (c - 1) → l ≡ lightAt lights (c - 1) → left ≡ leftAt lefts (c - 1) → r ≡ backOver l left x (ask .size) limit
+    → r ≡ limitOver (served contacts m lights lefts) ask c limit
+back-lent contacts m lights lefts c i ask limit x l left r ex el ef er =
     er
-    ∙ ap (λ (y : Light). backOver y left x (ask .size) limit) (el ∙ sym (light-lent contacts m pairs c i))
-    ∙ ap (λ (y : ℕ). backOver (lightIn (served contacts m pairs) c) y x (ask .size) limit) (ef ∙ sym (left-lent contacts m pairs c i))
-    ∙ ap (λ (y : Contact). backOver (lightIn (served contacts m pairs) c) (leftIn (served contacts m pairs) c) y (ask .size) limit)
-    (ex ∙ sym (contact-lent contacts m pairs c i))
+    ∙ ap (λ (y : Light). backOver y left x (ask .size) limit) (el ∙ sym (light-lent contacts m lights lefts c i))
+    ∙ ap (λ (y : ℕ). backOver (lightIn (served contacts m lights lefts) c) y x (ask .size) limit) (ef ∙ sym (left-lent contacts m lights lefts c i))
+    ∙ ap (λ (y : Contact). backOver (lightIn (served contacts m lights lefts) c) (leftIn (served contacts m lights lefts) c) y (ask .size) limit)
+    (ex ∙ sym (contact-lent contacts m lights lefts c i))
 
 module _ (p : Service) (ask : Ask) where
   pub part-none : (xs : List ℕ) (count limit : ℕ) → count ≡ 0 → limit ≡ limitBefore p ask (take count xs) limit

@@ -3,7 +3,7 @@
 --     opens-lent           the start on the first contact, where it was read from its row
 --     figures-by           figures worked out one by one
 --     walk-never, walk-late, walk-carries      the answer, by when the chain delivers
---     walk-serves          the answer over the pairs that `serve` filled
+--     walk-serves          the answer over the tables that `serve` filled
 -- Assumes nothing.
 use mathlib.Core.List.{List}
 use mathlib.Core.Path.{_≡_, sym, ap, _∙_}
@@ -50,9 +50,9 @@ goodAsk-tells ask =
     (tells-le (ask .size) mostSize))
     (tells-le (ask .deadline .0) lastTime))
 
-pub opens-lent : (contacts : List ℕ) (m : ℕ) (pairs : List ℕ) (c : ℕ) → InPlan (served contacts m pairs) c → (t : ℕ) (x : Contact) (r : ℕ)
-    → x ≡ contactAt contacts (c - 1) → r ≡ max t (x .start .0) → r ≡ startOn (contactOf (served contacts m pairs) c) t
-opens-lent contacts m pairs c i t x r ex er = er ∙ ap (λ (y : Contact). max t (y .start .0)) (ex ∙ sym (contact-lent contacts m pairs c i))
+pub opens-lent : (contacts : List ℕ) (m : ℕ) (lights lefts : List ℕ) (c : ℕ) → InPlan (served contacts m lights lefts) c → (t : ℕ) (x : Contact) (r : ℕ)
+    → x ≡ contactAt contacts (c - 1) → r ≡ max t (x .start .0) → r ≡ startOn (contactOf (served contacts m lights lefts) c) t
+opens-lent contacts m lights lefts c i t x r ex er = er ∙ ap (λ (y : Contact). max t (y .start .0)) (ex ∙ sym (contact-lent contacts m lights lefts c i))
 
 module _ (p : Service) (ask : Ask) (chain : List ℕ) where
   pub figures-by : (d o l : Millis) (n : ℕ) → o .0 ≡ startOn (contactOf p (getD chain 0 0)) (ask .time .0)

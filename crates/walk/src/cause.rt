@@ -37,20 +37,21 @@ fn is_named(contact_count: usize, no: ContactNo) -> bool
 fn judge_hop(
     contacts: &[u64],
     contact_count: usize,
-    pairs: &[u64],
+    lights: &[u32],
+    lefts: &[u64],
     ask: Ask,
     ready: Millis,
     no: ContactNo,
     position: u64,
 ) -> Judged
-    requires { ⌜ IsService (now contacts) «contact_count» (now pairs) × InPlan (served (now contacts) «contact_count» (now pairs)) (no .0) × (ask .size ≤ mostSize) × (ready .0 ≤ lastTime + mostLight) ⌝ }
-    ensures { λ r. ⌜ r ≡ judgedHop (served (now (contacts .entry)) «contact_count» (now (pairs .entry))) ask (ready .0) position (no .0) ⌝ }
+    requires { ⌜ IsService (now contacts) «contact_count» (now lights) (now lefts) × InPlan (served (now contacts) «contact_count» (now lights) (now lefts)) (no .0) × (ask .size ≤ mostSize) × (ready .0 ≤ lastTime + mostLight) ⌝ }
+    ensures { λ r. ⌜ r ≡ judgedHop (served (now (contacts .entry)) «contact_count» (now (lights .entry)) (now (lefts .entry))) ask (ready .0) position (no .0) ⌝ }
 {
-    let light = light_numbered(pairs, no);
+    let light = light_numbered(lights, no);
     let Light::Of(_) = light else {
         return Judged::Fault(Refusal::NotRanged(position));
     };
-    let arrival = over(contacts, contact_count, pairs, ask, no, ready);
+    let arrival = over(contacts, contact_count, lights, lefts, ask, no, ready);
     let Arrival::Ready(t) = arrival else {
         return Judged::Fault(Refusal::NotFitting(position));
     };
@@ -62,15 +63,16 @@ fn judge_hop(
 fn judge_named(
     contacts: &[u64],
     contact_count: usize,
-    pairs: &[u64],
+    lights: &[u32],
+    lefts: &[u64],
     ask: Ask,
     node: NodeNo,
     ready: Millis,
     no: ContactNo,
     position: u64,
 ) -> Judged
-    requires { ⌜ IsService (now contacts) «contact_count» (now pairs) × InPlan (served (now contacts) «contact_count» (now pairs)) (no .0) × (ask .size ≤ mostSize) × (ready .0 ≤ lastTime + mostLight) ⌝ }
-    ensures { λ r. ⌜ r ≡ judgedNamed (served (now (contacts .entry)) «contact_count» (now (pairs .entry))) ask (node .0) (ready .0) position (no .0) ⌝ }
+    requires { ⌜ IsService (now contacts) «contact_count» (now lights) (now lefts) × InPlan (served (now contacts) «contact_count» (now lights) (now lefts)) (no .0) × (ask .size ≤ mostSize) × (ready .0 ≤ lastTime + mostLight) ⌝ }
+    ensures { λ r. ⌜ r ≡ judgedNamed (served (now (contacts .entry)) «contact_count» (now (lights .entry)) (now (lefts .entry))) ask (node .0) (ready .0) position (no .0) ⌝ }
 {
     let c = contact_numbered(contacts, no);
     if c.from.0 != node.0 {
@@ -79,22 +81,32 @@ fn judge_named(
     if is_barred(ask, c) {
         return Judged::Fault(Refusal::ExcludedNode(position));
     }
-    judge_hop(contacts, contact_count, pairs, ask, ready, no, position)
+    judge_hop(
+        contacts,
+        contact_count,
+        lights,
+        lefts,
+        ask,
+        ready,
+        no,
+        position,
+    )
 }
 
 // The contact of that number, reached at `node` at `ready`, at that position of the chain.
 fn judge(
     contacts: &[u64],
     contact_count: usize,
-    pairs: &[u64],
+    lights: &[u32],
+    lefts: &[u64],
     ask: Ask,
     node: NodeNo,
     ready: Millis,
     no: ContactNo,
     position: u64,
 ) -> Judged
-    requires { ⌜ IsService (now contacts) «contact_count» (now pairs) × (ask .size ≤ mostSize) × (ready .0 ≤ lastTime + mostLight) ⌝ }
-    ensures { λ r. ⌜ r ≡ judged (served (now (contacts .entry)) «contact_count» (now (pairs .entry))) ask (node .0) (ready .0) position (no .0) ⌝ }
+    requires { ⌜ IsService (now contacts) «contact_count» (now lights) (now lefts) × (ask .size ≤ mostSize) × (ready .0 ≤ lastTime + mostLight) ⌝ }
+    ensures { λ r. ⌜ r ≡ judged (served (now (contacts .entry)) «contact_count» (now (lights .entry)) (now (lefts .entry))) ask (node .0) (ready .0) position (no .0) ⌝ }
 {
     if !is_named(contact_count, no) {
         return Judged::Fault(Refusal::NoContact(position));
@@ -102,7 +114,8 @@ fn judge(
     judge_named(
         contacts,
         contact_count,
-        pairs,
+        lights,
+        lefts,
         ask,
         node,
         ready,
@@ -116,12 +129,13 @@ fn judge(
 pub fn cause(
     contacts: &[u64],
     contact_count: usize,
-    pairs: &[u64],
+    lights: &[u32],
+    lefts: &[u64],
     ask: Ask,
     chain: &[u64],
 ) -> Refusal
-    requires { ⌜ IsService (now contacts) «contact_count» (now pairs) × (ask .size ≤ mostSize) × (ask .time .0 ≤ lastTime) ⌝ }
-    ensures { λ r. ⌜ r ≡ causeOf (served (now (contacts .entry)) «contact_count» (now (pairs .entry))) ask (now (chain .entry)) ⌝ }
+    requires { ⌜ IsService (now contacts) «contact_count» (now lights) (now lefts) × (ask .size ≤ mostSize) × (ask .time .0 ≤ lastTime) ⌝ }
+    ensures { λ r. ⌜ r ≡ causeOf (served (now (contacts .entry)) «contact_count» (now (lights .entry)) (now (lefts .entry))) ask (now (chain .entry)) ⌝ }
 {
     let mut node = ask.source;
     let mut ready = ask.time;
@@ -132,7 +146,8 @@ pub fn cause(
         let found = judge(
             contacts,
             contact_count,
-            pairs,
+            lights,
+            lefts,
             ask,
             node,
             ready,

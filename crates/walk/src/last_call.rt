@@ -19,17 +19,18 @@ ghost use Rattle.walk.specs.Model.{limitOver, limitBefore};
 pub fn back_over(
     contacts: &[u64],
     contact_count: usize,
-    pairs: &[u64],
+    lights: &[u32],
+    lefts: &[u64],
     ask: Ask,
     no: ContactNo,
     limit: Millis,
 ) -> Millis
-    requires { ⌜ IsService (now contacts) «contact_count» (now pairs) × InPlan (served (now contacts) «contact_count» (now pairs)) (no .0) × (ask .size ≤ mostSize) ⌝ }
-    ensures { λ r. ⌜ r .0 ≡ limitOver (served (now (contacts .entry)) «contact_count» (now (pairs .entry))) ask (no .0) (limit .0) ⌝ }
+    requires { ⌜ IsService (now contacts) «contact_count» (now lights) (now lefts) × InPlan (served (now contacts) «contact_count» (now lights) (now lefts)) (no .0) × (ask .size ≤ mostSize) ⌝ }
+    ensures { λ r. ⌜ r .0 ≡ limitOver (served (now (contacts .entry)) «contact_count» (now (lights .entry)) (now (lefts .entry))) ask (no .0) (limit .0) ⌝ }
 {
     let c = contact_numbered(contacts, no);
-    let light = light_numbered(pairs, no);
-    back(light, left_numbered(pairs, no), c, ask.size, limit)
+    let light = light_numbered(lights, no);
+    back(light, left_numbered(lefts, no), c, ask.size, limit)
 }
 
 // The limit before `count` contacts of the chain from place `at` on, from the limit behind them. It
@@ -37,23 +38,34 @@ pub fn back_over(
 fn limit_part(
     contacts: &[u64],
     contact_count: usize,
-    pairs: &[u64],
+    lights: &[u32],
+    lefts: &[u64],
     ask: Ask,
     chain: &[u64],
     at: usize,
     count: usize,
     limit: Millis,
 ) -> Millis
-    requires { ⌜ IsService (now contacts) «contact_count» (now pairs) × Each (InPlan (served (now contacts) «contact_count» (now pairs))) (now chain) × (ask .size ≤ mostSize) × (at + count ≤ length (now chain)) ⌝ }
-    ensures { λ r. ⌜ r .0 ≡ limitBefore (served (now (contacts .entry)) «contact_count» (now (pairs .entry))) ask (take count (drop at (now (chain .entry)))) (limit .0) ⌝ }
+    requires { ⌜ IsService (now contacts) «contact_count» (now lights) (now lefts) × Each (InPlan (served (now contacts) «contact_count» (now lights) (now lefts))) (now chain) × (ask .size ≤ mostSize) × (at + count ≤ length (now chain)) ⌝ }
+    ensures { λ r. ⌜ r .0 ≡ limitBefore (served (now (contacts .entry)) «contact_count» (now (lights .entry)) (now (lefts .entry))) ask (take count (drop at (now (chain .entry)))) (limit .0) ⌝ }
 {
     if count == 0 {
         return limit;
     }
     let last = count - 1;
     let no = ContactNo(chain[at + last]);
-    let before = back_over(contacts, contact_count, pairs, ask, no, limit);
-    limit_part(contacts, contact_count, pairs, ask, chain, at, last, before)
+    let before = back_over(contacts, contact_count, lights, lefts, ask, no, limit);
+    limit_part(
+        contacts,
+        contact_count,
+        lights,
+        lefts,
+        ask,
+        chain,
+        at,
+        last,
+        before,
+    )
 }
 
 fn at_most(a: usize, b: usize) -> usize
@@ -63,20 +75,21 @@ fn at_most(a: usize, b: usize) -> usize
 }
 
 // How many contacts are worked back at a time.
-const PART: usize = 8;
+const PART: usize = 4;
 
 // The limit before the whole chain, from the limit behind it: a few contacts at a time from its end
 // backwards, so that the stack does not grow with the chain.
 pub fn limit_before(
     contacts: &[u64],
     contact_count: usize,
-    pairs: &[u64],
+    lights: &[u32],
+    lefts: &[u64],
     ask: Ask,
     chain: &[u64],
     limit: Millis,
 ) -> Millis
-    requires { ⌜ IsService (now contacts) «contact_count» (now pairs) × Each (InPlan (served (now contacts) «contact_count» (now pairs))) (now chain) × (ask .size ≤ mostSize) ⌝ }
-    ensures { λ r. ⌜ r .0 ≡ limitBefore (served (now (contacts .entry)) «contact_count» (now (pairs .entry))) ask (now (chain .entry)) (limit .0) ⌝ }
+    requires { ⌜ IsService (now contacts) «contact_count» (now lights) (now lefts) × Each (InPlan (served (now contacts) «contact_count» (now lights) (now lefts))) (now chain) × (ask .size ≤ mostSize) ⌝ }
+    ensures { λ r. ⌜ r .0 ≡ limitBefore (served (now (contacts .entry)) «contact_count» (now (lights .entry)) (now (lefts .entry))) ask (now (chain .entry)) (limit .0) ⌝ }
 {
     let mut before = limit;
     let mut end = chain.len();
@@ -86,7 +99,8 @@ pub fn limit_before(
         before = limit_part(
             contacts,
             contact_count,
-            pairs,
+            lights,
+            lefts,
             ask,
             chain,
             end,

@@ -23,19 +23,20 @@ fn is_before(a: Arrival, limit: Millis) -> bool
 fn is_carried(
     contacts: &[u64],
     contact_count: usize,
-    pairs: &[u64],
+    lights: &[u32],
+    lefts: &[u64],
     ask: Ask,
     chain: &[u64],
     size: u64,
 ) -> bool
-    requires { ⌜ IsService (now contacts) «contact_count» (now pairs) × (size ≤ mostSize) × (ask .time .0 ≤ lastTime) ⌝ }
-    ensures { λ t. ⌜ t ≡ carriesSize (served (now (contacts .entry)) «contact_count» (now (pairs .entry))) ask (now (chain .entry)) size ⌝ }
+    requires { ⌜ IsService (now contacts) «contact_count» (now lights) (now lefts) × (size ≤ mostSize) × (ask .time .0 ≤ lastTime) ⌝ }
+    ensures { λ t. ⌜ t ≡ carriesSize (served (now (contacts .entry)) «contact_count» (now (lights .entry)) (now (lefts .entry))) ask (now (chain .entry)) size ⌝ }
 {
     let mut probe = ask;
     probe.size = size;
     let deadline = ask.deadline;
     is_before(
-        delivery(contacts, contact_count, pairs, probe, chain),
+        delivery(contacts, contact_count, lights, lefts, probe, chain),
         deadline,
     )
 }
@@ -44,20 +45,21 @@ fn is_carried(
 fn raise(
     contacts: &[u64],
     contact_count: usize,
-    pairs: &[u64],
+    lights: &[u32],
+    lefts: &[u64],
     ask: Ask,
     chain: &[u64],
     size: u64,
     bit: u64,
 ) -> u64
-    requires { ⌜ IsService (now contacts) «contact_count» (now pairs) × (ask .time .0 ≤ lastTime) × (size ≤ mostSize) × (bit ≤ 2 ^ sizeBits) ⌝ }
-    ensures { λ r. ⌜ r ≡ raised (served (now (contacts .entry)) «contact_count» (now (pairs .entry))) ask (now (chain .entry)) size bit ⌝ }
+    requires { ⌜ IsService (now contacts) «contact_count» (now lights) (now lefts) × (ask .time .0 ≤ lastTime) × (size ≤ mostSize) × (bit ≤ 2 ^ sizeBits) ⌝ }
+    ensures { λ r. ⌜ r ≡ raised (served (now (contacts .entry)) «contact_count» (now (lights .entry)) (now (lefts .entry))) ask (now (chain .entry)) size bit ⌝ }
 {
     let more = size + bit;
     if MOST_SIZE < more {
         return size;
     }
-    if is_carried(contacts, contact_count, pairs, ask, chain, more) {
+    if is_carried(contacts, contact_count, lights, lefts, ask, chain, more) {
         more
     } else {
         size
@@ -70,9 +72,16 @@ const SIZE_BITS: u64 = 30;
 const SIZE_TOP: u64 = 1_073_741_824;
 
 // The greatest size that the chain carries in time.
-pub fn room(contacts: &[u64], contact_count: usize, pairs: &[u64], ask: Ask, chain: &[u64]) -> u64
-    requires { ⌜ IsService (now contacts) «contact_count» (now pairs) × (ask .time .0 ≤ lastTime) ⌝ }
-    ensures { λ r. ⌜ r ≡ roomOf (served (now (contacts .entry)) «contact_count» (now (pairs .entry))) ask (now (chain .entry)) ⌝ }
+pub fn room(
+    contacts: &[u64],
+    contact_count: usize,
+    lights: &[u32],
+    lefts: &[u64],
+    ask: Ask,
+    chain: &[u64],
+) -> u64
+    requires { ⌜ IsService (now contacts) «contact_count» (now lights) (now lefts) × (ask .time .0 ≤ lastTime) ⌝ }
+    ensures { λ r. ⌜ r ≡ roomOf (served (now (contacts .entry)) «contact_count» (now (lights .entry)) (now (lefts .entry))) ask (now (chain .entry)) ⌝ }
 {
     let mut size: u64 = 0;
     let mut bit: u64 = SIZE_TOP;
@@ -80,7 +89,16 @@ pub fn room(contacts: &[u64], contact_count: usize, pairs: &[u64], ask: Ask, cha
     while 0 < bits {
         bits -= 1;
         bit /= 2;
-        size = raise(contacts, contact_count, pairs, ask, chain, size, bit);
+        size = raise(
+            contacts,
+            contact_count,
+            lights,
+            lefts,
+            ask,
+            chain,
+            size,
+            bit,
+        );
     }
     size
 }

@@ -5,8 +5,8 @@ use crate::figures::Walked;
 use crate::last_call::limit_before;
 use crate::room::room;
 use plan::contact_numbered;
-use service::BLANK;
-use service::PAIRS;
+use service::BLANK_LEFT;
+use service::BLANK_LIGHT;
 use service::serve;
 use timing::Arrival;
 use timing::delivery;
@@ -14,19 +14,20 @@ use timing::later;
 use units::Ask;
 use units::ContactNo;
 use units::LAST_TIME;
+use units::MOST_CONTACTS;
 use units::MOST_SIZE;
 use units::Millis;
 use units::Refusal;
 use units::is_node;
 use validity::is_plan;
 ghost use mathlib.Core.Path.{_≡_};
-ghost use Prim.Native.Nat.{_-_, _*_, _≤_, _<_};
+ghost use Prim.Native.Nat.{_-_, _≤_, _<_};
 ghost use lib.ListN.{length, getD};
 ghost use Rattle.units.specs.Limits.{mostContacts};
 ghost use Rattle.plan.specs.Plan.{Each};
 ghost use Rattle.plan.specs.Tables.{IsPlan, planOf};
 ghost use Rattle.service.specs.Service.{InPlan, contactOf, serviceOf, unused};
-ghost use Rattle.service.specs.Tables.{pairWords, IsService, served};
+ghost use Rattle.service.specs.Tables.{IsService, served};
 ghost use Rattle.timing.specs.Hop.{startOn};
 ghost use Rattle.walk.specs.Model.{goodAsk, limitBefore, figuresOf, walkModel};
 ghost use Rattle.walk.specs.Walk.{GoodAsk, Walks};
@@ -46,9 +47,16 @@ pub fn is_good_ask(ask: Ask) -> bool
 }
 
 // When the file starts on the chain's first contact.
-fn opens(contacts: &[u64], contact_count: usize, pairs: &[u64], ask: Ask, chain: &[u64]) -> Millis
-    requires { ⌜ IsService (now contacts) «contact_count» (now pairs) × Each (InPlan (served (now contacts) «contact_count» (now pairs))) (now chain) × (1 ≤ length (now chain)) ⌝ }
-    ensures { λ r. ⌜ r .0 ≡ startOn (contactOf (served (now (contacts .entry)) «contact_count» (now (pairs .entry))) (getD (now (chain .entry)) 0 0)) (ask .time .0) ⌝ }
+fn opens(
+    contacts: &[u64],
+    contact_count: usize,
+    lights: &[u32],
+    lefts: &[u64],
+    ask: Ask,
+    chain: &[u64],
+) -> Millis
+    requires { ⌜ IsService (now contacts) «contact_count» (now lights) (now lefts) × Each (InPlan (served (now contacts) «contact_count» (now lights) (now lefts))) (now chain) × (1 ≤ length (now chain)) ⌝ }
+    ensures { λ r. ⌜ r .0 ≡ startOn (contactOf (served (now (contacts .entry)) «contact_count» (now (lights .entry)) (now (lefts .entry))) (getD (now (chain .entry)) 0 0)) (ask .time .0) ⌝ }
 {
     let first = ContactNo(chain[0]);
     let start = contact_numbered(contacts, first).start;
@@ -60,15 +68,16 @@ fn opens(contacts: &[u64], contact_count: usize, pairs: &[u64], ask: Ask, chain:
 fn last_call(
     contacts: &[u64],
     contact_count: usize,
-    pairs: &[u64],
+    lights: &[u32],
+    lefts: &[u64],
     ask: Ask,
     chain: &[u64],
 ) -> Millis
-    requires { ⌜ IsService (now contacts) «contact_count» (now pairs) × Each (InPlan (served (now contacts) «contact_count» (now pairs))) (now chain) × GoodAsk ask ⌝ }
-    ensures { λ r. ⌜ r .0 ≡ limitBefore (served (now (contacts .entry)) «contact_count» (now (pairs .entry))) ask (now (chain .entry)) (ask .deadline .0) - 1 ⌝ }
+    requires { ⌜ IsService (now contacts) «contact_count» (now lights) (now lefts) × Each (InPlan (served (now contacts) «contact_count» (now lights) (now lefts))) (now chain) × GoodAsk ask ⌝ }
+    ensures { λ r. ⌜ r .0 ≡ limitBefore (served (now (contacts .entry)) «contact_count» (now (lights .entry)) (now (lefts .entry))) ask (now (chain .entry)) (ask .deadline .0) - 1 ⌝ }
 {
     let deadline = ask.deadline;
-    let limit = limit_before(contacts, contact_count, pairs, ask, chain, deadline);
+    let limit = limit_before(contacts, contact_count, lights, lefts, ask, chain, deadline);
     if 0 < limit.0 {
         Millis(limit.0 - 1)
     } else {
@@ -80,17 +89,18 @@ fn last_call(
 pub fn figures_of(
     contacts: &[u64],
     contact_count: usize,
-    pairs: &[u64],
+    lights: &[u32],
+    lefts: &[u64],
     ask: Ask,
     chain: &[u64],
     delivered: Millis,
 ) -> Figures
-    requires { ⌜ IsService (now contacts) «contact_count» (now pairs) × Each (InPlan (served (now contacts) «contact_count» (now pairs))) (now chain) × GoodAsk ask × (1 ≤ length (now chain)) ⌝ }
-    ensures { λ r. ⌜ r ≡ figuresOf (served (now (contacts .entry)) «contact_count» (now (pairs .entry))) ask (now (chain .entry)) (delivered .0) ⌝ }
+    requires { ⌜ IsService (now contacts) «contact_count» (now lights) (now lefts) × Each (InPlan (served (now contacts) «contact_count» (now lights) (now lefts))) (now chain) × GoodAsk ask × (1 ≤ length (now chain)) ⌝ }
+    ensures { λ r. ⌜ r ≡ figuresOf (served (now (contacts .entry)) «contact_count» (now (lights .entry)) (now (lefts .entry))) ask (now (chain .entry)) (delivered .0) ⌝ }
 {
-    let opening = opens(contacts, contact_count, pairs, ask, chain);
-    let call = last_call(contacts, contact_count, pairs, ask, chain);
-    let most = room(contacts, contact_count, pairs, ask, chain);
+    let opening = opens(contacts, contact_count, lights, lefts, ask, chain);
+    let call = last_call(contacts, contact_count, lights, lefts, ask, chain);
+    let most = room(contacts, contact_count, lights, lefts, ask, chain);
     Figures {
         delivery: delivered,
         opens: opening,
@@ -103,19 +113,28 @@ pub fn figures_of(
 pub fn walk_served(
     contacts: &[u64],
     contact_count: usize,
-    pairs: &[u64],
+    lights: &[u32],
+    lefts: &[u64],
     ask: Ask,
     chain: &[u64],
 ) -> Walked
-    requires { ⌜ IsService (now contacts) «contact_count» (now pairs) × GoodAsk ask × (ask .source .0 ≡ ask .destination .0 → ⊥) ⌝ }
-    ensures { λ r. ⌜ r ≡ walkModel (served (now (contacts .entry)) «contact_count» (now (pairs .entry))) ask (now (chain .entry)) ⌝ }
+    requires { ⌜ IsService (now contacts) «contact_count» (now lights) (now lefts) × GoodAsk ask × (ask .source .0 ≡ ask .destination .0 → ⊥) ⌝ }
+    ensures { λ r. ⌜ r ≡ walkModel (served (now (contacts .entry)) «contact_count» (now (lights .entry)) (now (lefts .entry))) ask (now (chain .entry)) ⌝ }
 {
-    let arrival = delivery(contacts, contact_count, pairs, ask, chain);
+    let arrival = delivery(contacts, contact_count, lights, lefts, ask, chain);
     let Arrival::Ready(delivered) = arrival else {
-        return Walked::Refused(cause(contacts, contact_count, pairs, ask, chain));
+        return Walked::Refused(cause(contacts, contact_count, lights, lefts, ask, chain));
     };
     if delivered.0 < ask.deadline.0 {
-        Walked::Carried(figures_of(contacts, contact_count, pairs, ask, chain, delivered))
+        Walked::Carried(figures_of(
+            contacts,
+            contact_count,
+            lights,
+            lefts,
+            ask,
+            chain,
+            delivered,
+        ))
     } else {
         Walked::Refused(Refusal::TooLate)
     }
@@ -130,13 +149,14 @@ fn walk_through(
     range_count: usize,
     ask: Ask,
     chain: &[u64],
-    pairs: &mut [u64],
+    lights: &mut [u32],
+    lefts: &mut [u64],
 ) -> Walked
-    requires { ⌜ IsPlan (now contacts) «contact_count» (now ranges) «range_count» × GoodAsk ask × (ask .source .0 ≡ ask .destination .0 → ⊥) × (mostContacts * pairWords ≤ length (now pairs)) ⌝ }
+    requires { ⌜ IsPlan (now contacts) «contact_count» (now ranges) «range_count» × GoodAsk ask × (ask .source .0 ≡ ask .destination .0 → ⊥) × (mostContacts ≤ length (now lights)) × (mostContacts ≤ length (now lefts)) ⌝ }
     ensures { λ r. ⌜ r ≡ walkModel (serviceOf (planOf (now (contacts .entry)) «contact_count» (now (ranges .entry)) «range_count») unused) ask (now (chain .entry)) ⌝ }
 {
-    serve(contacts, contact_count, ranges, range_count, pairs);
-    walk_served(contacts, contact_count, pairs, ask, chain)
+    serve(contacts, contact_count, ranges, range_count, lights, lefts);
+    walk_served(contacts, contact_count, lights, lefts, ask, chain)
 }
 
 // The same, with that table on the stack.
@@ -151,7 +171,8 @@ fn walk_plan(
     requires { ⌜ IsPlan (now contacts) «contact_count» (now ranges) «range_count» × GoodAsk ask × (ask .source .0 ≡ ask .destination .0 → ⊥) ⌝ }
     ensures { λ r. ⌜ r ≡ walkModel (serviceOf (planOf (now (contacts .entry)) «contact_count» (now (ranges .entry)) «range_count») unused) ask (now (chain .entry)) ⌝ }
 {
-    let mut pairs = [BLANK; PAIRS];
+    let mut lights = [BLANK_LIGHT; MOST_CONTACTS];
+    let mut lefts = [BLANK_LEFT; MOST_CONTACTS];
     walk_through(
         contacts,
         contact_count,
@@ -159,7 +180,8 @@ fn walk_plan(
         range_count,
         ask,
         chain,
-        &mut pairs,
+        &mut lights,
+        &mut lefts,
     )
 }
 

@@ -12,20 +12,21 @@ use Rattle.booking.proofs.routes.route_through.Tie as tie
 
 serve-booked-requires : tie.Need-serve-booked-requires
 serve-booked-requires c κs =
-    let pre = c .before .before .before .before .before .before .before .pre in
-    (pre .0 .plan, pre .0 .its-book, pre .1)
+    let pre = c .before .before .before .before .before .before .before .before .before .pre in
+    (pre .0 .plan, pre .0 .its-book, pre .1, pre .2)
 
 route-served-requires : tie.Need-route-served-requires
 route-served-requires c κs =
-    let at-serve = c .before .before .before .before in
-    let start = at-serve .before .before .before .before .before .before .before .before in
+    let at-serve = c .before .before .before .before .before .before .before in
+    let start = at-serve .before .before .before .before .before .before .before .before .before .before in
+    let filled = at-serve .serve-booked .ensures in
     let good = start .pre .0 in
     let few = contacts-counted _ _ _ _ (good .plan) in (
-      is-service _ _ _ _ _ (used (bookOf (start .args .book .now) (start .args .chains .now)) (start .args .class)) (good .plan)
-          (omega (arith, few, start .pre .1, at-serve .serve-booked .ensures .1)) (at-serve .serve-booked .ensures .0),
+      is-service _ _ _ _ _ _ (used (bookOf (start .args .book .now) (start .args .chains .now)) (start .args .class)) (good .plan)
+          (omega (arith, few, start .pre .1, filled .1)) (omega (arith, few, start .pre .2, filled .2)) (filled .0),
       good .good-ask,
       good .differ,
-      start .pre .2,
+      start .pre .3,
     )
 
 same-length : tie.Need-same-length
@@ -34,11 +35,14 @@ same-length c = search needs
 same-length-2 : tie.Need-same-length-2
 same-length-2 c = search needs
 
+same-length-3 : tie.Need-same-length-3
+same-length-3 c = search needs
+
 returns : tie.Need-returns
 returns c =
-    let at-serve = c .before .before .before .before .before .before .before in
-    route-serves _ _ (at-serve .before .before .before .before .before .before .before .before .args .ask) _ _ _ (at-serve .serve-booked .ensures .0)
+    let at-serve = c .before .before .before .before .before .before .before .before .before .before in
+    route-serves _ _ (at-serve .before .before .before .before .before .before .before .before .before .before .args .ask) _ _ _ (at-serve .serve-booked .ensures .0)
     (c .before .before .route-served .ensures)
 
 pub route-through-spec : {M : Type 1} → statement M
-route-through-spec = tie.close (tie.spec serve-booked-requires route-served-requires same-length same-length-2 returns)
+route-through-spec = tie.close (tie.spec serve-booked-requires route-served-requires same-length same-length-2 same-length-3 returns)

@@ -10,23 +10,23 @@ use Rattle.layers.proofs.filling.ends_of.Tie as tie
 
 contact-numbered-requires : tie.Need-contact-numbered-requires
 contact-numbered-requires c κs =
-    let pre = c .before .before .pre in
-    omega (arith, pre .1 .least, named-at-most _ _ _ _ (pre .1), pre .0 .contacts-lent)
+    let pre = c .before .before .before .pre in
+    omega (arith, pre .1 .least, named-at-most _ _ _ _ _ (pre .1), pre .0 .contacts-lent)
 
-sub-t6 : tie.Need-sub-t6
-sub-t6 c =
-    let pre = c .before .before .before .before .pre in
-    subst GoodContact (sym (c .before .contact-numbered .ensures)) (named-good _ _ _ _ (pre .0) (pre .1)) .from-node .least
-
-sub-t8 : tie.Need-sub-t8
-sub-t8 c =
+sub-t7 : tie.Need-sub-t7
+sub-t7 c =
     let pre = c .before .before .before .before .before .pre in
-    subst GoodContact (sym (c .before .before .contact-numbered .ensures)) (named-good _ _ _ _ (pre .0) (pre .1)) .to-node .least
+    subst GoodContact (sym (c .before .contact-numbered .ensures)) (named-good _ _ _ _ _ (pre .0) (pre .1)) .from-node .least
+
+sub-t9 : tie.Need-sub-t9
+sub-t9 c =
+    let pre = c .before .before .before .before .before .before .pre in
+    subst GoodContact (sym (c .before .before .contact-numbered .ensures)) (named-good _ _ _ _ _ (pre .0) (pre .1)) .to-node .least
 
 returns : tie.Need-returns
 returns c =
-    let pre = c .before .before .before .before .before .pre in
-    ends-are _ _ _ _ (pre .0) (pre .1) _ (c .before .before .contact-numbered .ensures)
+    let pre = c .before .before .before .before .before .before .pre in
+    ends-are _ _ _ _ _ (pre .0) (pre .1) _ (c .before .before .contact-numbered .ensures)
 
 pub ends-of-spec : {M : Type 1} → statement M
-ends-of-spec = tie.close (tie.spec contact-numbered-requires sub-t6 sub-t8 returns)
+ends-of-spec = tie.close (tie.spec contact-numbered-requires sub-t7 sub-t9 returns)

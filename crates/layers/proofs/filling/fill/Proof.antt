@@ -16,7 +16,7 @@ slice-aggregate-fill-listed-2 c = search needs
 fill-listed-requires : tie.Need-fill-listed-requires
 unfolding mostNodes mostRows
 fill-listed-requires c κs =
-    let pre = c .before .before .before .before .before .before .pre in
+    let pre = c .before .before .before .before .before .before .before .pre in
     (pre .0, pre .1, pre .2, omega arith, omega arith)
 
 same-length : tie.Need-same-length

@@ -7,14 +7,14 @@ use Rattle.layers.proofs.filling.fill_listed.Statement.{statement}
 use Rattle.layers.proofs.filling.fill_listed.Tie as tie
 
 link-from-requires : tie.Need-link-from-requires
-link-from-requires c κs = let pre = c .before .before .before .before .before .before .before .pre in linkable-from _ _ _ _ _ (pre .0) (pre .3) (pre .4)
+link-from-requires c κs = let pre = c .before .before .before .before .before .before .before .before .pre in linkable-from _ _ _ _ _ _ (pre .0) (pre .3) (pre .4)
 
 fill-rows-requires : tie.Need-fill-rows-requires
 fill-rows-requires c κs =
     let at-link = c .before .before .before .before .before .before .before in
-    let pre = at-link .before .before .before .before .before .before .before .before .pre in
+    let pre = at-link .before .before .before .before .before .before .before .before .before .pre in
     let linked = at-link .link-from .ensures in
-    (pre .0, pre .1, pre .2, listed-from _ _ _ _ _ (pre .0) (linked .1 ∙ pre .3) (linked .2 ∙ pre .4) (linked .0))
+    (pre .0, pre .1, pre .2, listed-from _ _ _ _ _ _ (pre .0) (linked .1 ∙ pre .3) (linked .2 ∙ pre .4) (linked .0))
 
 same-length : tie.Need-same-length
 same-length c = search needs

@@ -12,7 +12,7 @@ copy-row-requires c κs = search needs
 try-all-requires : tie.Need-try-all-requires
 try-all-requires c κs =
     let at-copy = c .before .before .before in
-    let pre = at-copy .before .before .before .before .before .before .before .pre in
+    let pre = at-copy .before .before .before .before .before .before .before .before .pre in
     let copy = at-copy .copy-row .ensures in
     (pre .0, pre .1, copy .timed, omega (arith, copy .long, pre .3), copied-same _ _ _ copy, older-kept _ _ _ _ _ (copy .long) (copy .kept) (pre .4), pre .5)
 

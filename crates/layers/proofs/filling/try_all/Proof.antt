@@ -17,23 +17,23 @@ use Rattle.layers.proofs.filling.try_all.Statement.{statement}
 use Rattle.layers.proofs.filling.try_all.Tie as tie
 
 abbrev Inv-loop : tie.InvT-loop
-Inv-loop contacts contact-count pairs ask words₀ old k heads nexts same₀ v₀ words same v =
+Inv-loop contacts contact-count lights lefts ask words₀ old k heads nexts same₀ v₀ words same v =
     (v ≤ 64)
-    × Tried (networkOf (served contacts contact-count pairs) ask) words₀ words k (λ c. networkOf (served contacts contact-count pairs) ask .from c < v)
+    × Tried (networkOf (served contacts contact-count lights lefts) ask) words₀ words k (λ c. networkOf (served contacts contact-count lights lefts) ask .from c < v)
     × (same ≡ true → words ≡ words₀)
 
 abbrev μ-loop : tie.MeasureT-loop
-μ-loop contacts contact-count pairs ask words₀ old k heads nexts same₀ v₀ words same v = 64 - v
+μ-loop contacts contact-count lights lefts ask words₀ old k heads nexts same₀ v₀ words same v = 64 - v
 
 loop-holds : tie.Need-loop-holds Inv-loop μ-loop
-loop-holds c = let pre = c .before .before .before .before .before .pre in (omega arith, tried-none _ _ _ (pre .2) (λ c′ here none. omega arith), λ e. refl)
+loop-holds c = let pre = c .before .before .before .before .before .before .pre in (omega arith, tried-none _ _ _ (pre .2) (λ c′ here none. omega arith), λ e. refl)
 
 try-changed-requires : tie.Need-try-changed-requires Inv-loop μ-loop
 unfolding mostNodes
 try-changed-requires c κs =
     let at-loop = c .before .before in
     let so-far = at-loop .loop .inv .1 in
-    let pre = at-loop .before .before .before .before .before .before .pre in (
+    let pre = at-loop .before .before .before .before .before .before .before .pre in (
       (pre .0, pre .1, so-far .timed, omega (arith, so-far .long, pre .3), pre .6, omega (arith, c .before .loop-test .taken)),
       (older-kept _ _ _ _ _ (so-far .long) (so-far .kept) (pre .5), still-lower _ _ _ _ (pre .4) so-far),
     )
@@ -64,8 +64,8 @@ returns : tie.Need-returns Inv-loop μ-loop
 unfolding mostNodes
 returns c =
     let at-loop = c .before in
-    let pre = at-loop .before .before .before .before .before .before .pre in
-    (tried-nodes _ _ _ _ _ _ _ _ (pre .0) (pre .1) (pre .3) (pre .4) (c .loop-test .left) (at-loop .loop .inv .1), at-loop .loop .inv .2)
+    let pre = at-loop .before .before .before .before .before .before .before .pre in
+    (tried-nodes _ _ _ _ _ _ _ _ _ (pre .0) (pre .1) (pre .3) (pre .4) (c .loop-test .left) (at-loop .loop .inv .1), at-loop .loop .inv .2)
 
 pub try-all-spec : {M : Type 1} → statement M
 try-all-spec =

@@ -19,7 +19,7 @@ same-length c = search needs
 returns : tie.Need-returns
 returns c =
     let at-get = c .before .before .before in
-    let pre = at-get .before .before .before .before .before .before .before .pre in
+    let pre = at-get .before .before .before .before .before .before .before .before .pre in
     (tried-skipped _ _ _ _ _ (pre .0 .3) (pre .0 .2) (pre .0 .5) (pre .1 .0) (pre .1 .1) _ _ (at-get .get .ensures) (c .before .get2 .ensures) (c .if1 .taken), λ e. refl)
 
 try-from-requires : tie.Need-try-from-requires

@@ -12,7 +12,7 @@ ends-of-requires c κs = search needs
 
 add-next : tie.Need-add-next
 unfolding mostNodes
-add-next c = let start = c .before .before .before .before in omega (arith, start .pre .4, start .good)
+add-next c = let start = c .before .before .before .before .before in omega (arith, start .pre .4, start .good)
 
 get-requires : tie.Need-get-requires
 get-requires c κs = search needs
@@ -20,7 +20,7 @@ get-requires c κs = search needs
 is-late-requires : tie.Need-is-late-requires
 is-late-requires c κs =
     let at-ends = c .before .before in
-    let start = at-ends .before .before .before .before in
+    let start = at-ends .before .before .before .before .before in
     let pre = start .pre in
     (pre .0, pre .1, pre .2, ready-time _ _ _ _ _ _ _ (start .args .ready) (pre .3) (pre .4) (at-ends .ends-of .ensures) (pre .5))
 
@@ -31,7 +31,7 @@ returns : tie.Need-returns
 returns c =
     let at-get = c .before .before in
     let at-ends = at-get .before .before in
-    let start = at-ends .before .before .before .before in
+    let start = at-ends .before .before .before .before .before in
     let pre = start .pre in
     tried-late _ _ _ _ _ _ _ (pre .4) (pre .3) (at-ends .ends-of .ensures) (start .args .ready) _ (pre .5) (at-get .get .ensures)
     (c .before .is-late .ensures (c .if1 .taken))
@@ -39,7 +39,7 @@ returns c =
 arrive-requires : tie.Need-arrive-requires
 arrive-requires c κs =
     let at-ends = c .before .before .before .before in
-    let start = at-ends .before .before .before .before in
+    let start = at-ends .before .before .before .before .before in
     let pre = start .pre in
     (pre .0, pre .1, pre .2, ready-time _ _ _ _ _ _ _ (start .args .ready) (pre .3) (pre .4) (at-ends .ends-of .ensures) (pre .5))
 
@@ -55,7 +55,7 @@ returns-2 c =
     let at-arrive = at-if2 .before in
     let at-get = at-arrive .before .before .before in
     let at-ends = at-get .before .before in
-    let start = at-ends .before .before .before .before in
+    let start = at-ends .before .before .before .before .before in
     let pre = start .pre in
     tried-earlier _ _ _ _ _ _ _ (pre .4) (pre .3) (at-ends .ends-of .ensures) (start .args .ready) _ (pre .5) (at-get .get .ensures) _
     (at-arrive .arrive .ensures) _ (at-if2 .if2 .taken) (c .before .before .put .ensures)
@@ -68,7 +68,7 @@ returns-3 c =
     let at-arrive = c .before in
     let at-get = at-arrive .before .before .before in
     let at-ends = at-get .before .before in
-    let start = at-ends .before .before .before .before in
+    let start = at-ends .before .before .before .before .before in
     let pre = start .pre in
     tried-later _ _ _ _ _ _ _ (pre .4) (pre .3) (at-ends .ends-of .ensures) (start .args .ready) _ (pre .5) (at-get .get .ensures) _
     (at-arrive .arrive .ensures) (c .if2 .left)

@@ -12,10 +12,13 @@ is-plan-requires c κs = search needs
 slice-aggregate-serve : tie.Need-slice-aggregate-serve
 slice-aggregate-serve c = search needs
 
+slice-aggregate-serve-2 : tie.Need-slice-aggregate-serve-2
+slice-aggregate-serve-2 c = search needs
+
 serve-requires : tie.Need-serve-requires
 serve-requires c κs =
-    let pre = c .before .before .before .before .before .pre in
-    (true-holds (c .before .before .is-plan .ensures) (c .before .if1 .taken), omega (arith, pre .2))
+    let pre = c .before .before .before .before .before .before .pre in
+    (true-holds (c .before .before .before .is-plan .ensures) (c .before .before .if1 .taken), omega (arith, pre .2), omega (arith, pre .2))
 
 slice-aggregate-light-numbered : tie.Need-slice-aggregate-light-numbered
 slice-aggregate-light-numbered c = search needs
@@ -44,6 +47,7 @@ light-in-spec =
     (tie.spec
     is-plan-requires
     slice-aggregate-serve
+    slice-aggregate-serve-2
     serve-requires
     slice-aggregate-light-numbered
     light-numbered-requires

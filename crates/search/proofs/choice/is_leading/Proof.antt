@@ -19,14 +19,14 @@ get-requires c κs = search needs
 
 arrive-requires : tie.Need-arrive-requires
 arrive-requires c κs =
-    let pre = c .before .before .before .before .before .before .pre in
+    let pre = c .before .before .before .before .before .before .before .pre in
     (pre .0, pre .1, pre .2, subst TimeWord (sym (c .get .ensures)) (time-row _ _ _ (pre .3) (pre .4) (c .before .before .ends-of .ensures .from-node)))
 
 returns-2 : tie.Need-returns-2
 unfolding neverWord
 returns-2 c =
     let at-ends = c .before .before .before .before in
-    let start = at-ends .before .before .before .before in
+    let start = at-ends .before .before .before .before .before in
     leads-never _ _ _ _ _ _ _ _ _ (at-ends .ends-of .ensures) (c .before .before .before .if1 .left) (start .pre .4) _ _ (c .before .before .get .ensures)
     (c .before .arrive .ensures) (c .if2 .taken)
 
@@ -34,7 +34,7 @@ returns-3 : tie.Need-returns-3
 unfolding neverWord
 returns-3 c =
     let at-ends = c .before .before .before .before in
-    let start = at-ends .before .before .before .before in
+    let start = at-ends .before .before .before .before .before in
     leads-by _ _ _ _ _ _ _ _ _ (at-ends .ends-of .ensures) (c .before .before .before .if1 .left) (start .pre .4) _ _ (c .before .before .get .ensures)
     (c .before .arrive .ensures) (c .if2 .left)
 

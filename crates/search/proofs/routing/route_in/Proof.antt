@@ -19,7 +19,7 @@ sub-goal c = search needs
 get-requires : tie.Need-get-requires
 get-requires c κs =
     let at-fill = c .before .before .before .before in
-    let pre = at-fill .before .before .before .before .before .before .pre in
+    let pre = at-fill .before .before .before .before .before .before .before .pre in
     (row-inside _ _ _ _ (at-fill .fill .ensures) (le-refl _), omega (arith, pre .1 .destination-node))
 
 same-length : tie.Need-same-length
@@ -30,7 +30,7 @@ unfolding neverWord
 returns c =
     let at-get = c .before in
     let at-fill = at-get .before .before .before .before .before in
-    let pre = at-fill .before .before .before .before .before .before .pre in
+    let pre = at-fill .before .before .before .before .before .before .before .pre in
     route-none _ (pre .0 .sound) _ (pre .1) (pre .2) _ _ (at-fill .fill .ensures) _ (at-get .get .ensures) _ (c .if1 .taken)
 
 same-length-2 : tie.Need-same-length-2
@@ -41,14 +41,14 @@ unfolding neverWord
 returns-2 c =
     let at-get = c .before .before .before in
     let at-fill = at-get .before .before .before .before .before in
-    let pre = at-fill .before .before .before .before .before .before .pre in
+    let pre = at-fill .before .before .before .before .before .before .before .pre in
     route-late _ (pre .0 .sound) _ (pre .1) (pre .2) _ _ (at-fill .fill .ensures) _ (at-get .get .ensures) (c .before .before .if1 .left) _ (c .if2 .taken)
 
 first-row-requires : tie.Need-first-row-requires
 first-row-requires c κs =
     let at-get = c .before .before .before .before in
     let at-fill = at-get .before .before .before .before .before in
-    let pre = at-fill .before .before .before .before .before .before .pre in
+    let pre = at-fill .before .before .before .before .before .before .before .pre in
     (row-inside _ _ _ _ (at-fill .fill .ensures) (le-refl _), omega (arith, pre .1 .destination-node), sym (at-get .get .ensures))
 
 choose-requires : tie.Need-choose-requires
@@ -56,7 +56,7 @@ unfolding neverWord
 choose-requires c κs =
     let at-get = c .before .before .before .before .before .before .before in
     let at-fill = at-get .before .before .before .before .before in
-    let pre = at-fill .before .before .before .before .before .before .pre in
+    let pre = at-fill .before .before .before .before .before .before .before .pre in
     let filled = at-fill .fill .ensures in
     let first = c .before .before .first-row .ensures in
     let some = c .before .before .before .before .before .before .if1 .left in (
@@ -75,7 +75,7 @@ unfolding neverWord
 slice-reshare-prefix-figures-of c =
     let at-get = c .before .before .before .before .before .before .before .before .before .before in
     let at-fill = at-get .before .before .before .before .before in
-    let pre = at-fill .before .before .before .before .before .before .pre in
+    let pre = at-fill .before .before .before .before .before .before .before .pre in
     let at-first = c .before .before .before .before .before in
     let room = le-trans (count-room _ (pre .0 .sound) _ (pre .1) (pre .2) _ _ (at-fill .fill .ensures) _ (at-get .get .ensures) (c .before .before .before .before .before .before .before .before .before .if1 .left) _ (at-first .first-row .ensures)) (pre .4) in
     omega (arith, room, c .before .before .choose .kept)
@@ -85,7 +85,7 @@ unfolding neverWord
 slice-aggregate-figures-of c =
     let at-get = c .before .before .before .before .before .before .before .before .before .before .before in
     let at-fill = at-get .before .before .before .before .before in
-    let pre = at-fill .before .before .before .before .before .before .pre in
+    let pre = at-fill .before .before .before .before .before .before .before .pre in
     let first = c .before .before .before .before .before .before .first-row .ensures in
     let some = c .before .before .before .before .before .before .before .before .before .before .if1 .left in
     let written = c .before .before .before .choose .ensures in
@@ -96,14 +96,14 @@ unfolding neverWord
 figures-of-requires c κs =
     let at-get = c .before .before .before .before .before .before .before .before .before .before .before in
     let at-fill = at-get .before .before .before .before .before in
-    let pre = at-fill .before .before .before .before .before .before .pre in
+    let pre = at-fill .before .before .before .before .before .before .before .pre in
     let first = c .before .before .before .before .before .before .first-row .ensures in
     let some = c .before .before .before .before .before .before .before .before .before .before .if1 .left in
     let written = c .before .before .before .choose .ensures in
     (pre .0, chain-named _ (pre .0 .sound) _ (pre .1) (pre .2) _ _ (at-fill .fill .ensures) _ (at-get .get .ensures) some _ first _ _ written, pre .1, chain-some _ (pre .0 .sound) _ (pre .1) (pre .2) _ _ (at-fill .fill .ensures) _ (at-get .get .ensures) some _ first _ _ written)
 
 same-length-3 : tie.Need-same-length-3
-same-length-3 c = c .before .before .before .before .before .before .before .before .before .before .before .before .before .before .before .before .before .fill .kept .1 .1 .1 .1 .0
+same-length-3 c = c .before .before .before .before .before .before .before .before .before .before .before .before .before .before .before .before .before .fill .kept .1 .1 .1 .1 .1 .0
 
 same-length-4 : tie.Need-same-length-4
 same-length-4 c = search needs
@@ -113,7 +113,7 @@ unfolding neverWord
 returns-3 c =
     let at-get = c .before .before .before .before .before .before .before .before .before .before .before .before in
     let at-fill = at-get .before .before .before .before .before in
-    let pre = at-fill .before .before .before .before .before .before .pre in
+    let pre = at-fill .before .before .before .before .before .before .before .pre in
     let first = c .before .before .before .before .before .before .before .first-row .ensures in
     let some = c .before .before .before .before .before .before .before .before .before .before .before .if1 .left in
     let written = c .before .before .before .before .choose .ensures in

@@ -10,7 +10,7 @@ slice-aggregate-route-in c = search needs
 
 route-in-requires : tie.Need-route-in-requires
 route-in-requires c κs =
-    let pre = c .before .before .before .before .before .pre in
+    let pre = c .before .before .before .before .before .before .pre in
     (pre .0, pre .1, pre .2, blank-is, pre .3)
 
 same-length : tie.Need-same-length

@@ -10,19 +10,20 @@ use Rattle.search.proofs.routing.route_through.Tie as tie
 
 serve-requires : tie.Need-serve-requires
 serve-requires c κs =
-    let pre = c .before .before .before .before .before .pre in
+    let pre = c .before .before .before .before .before .before .before .pre in
     let few = contacts-counted _ _ _ _ (pre .0) in
-    (pre .0, omega (arith, few, pre .3))
+    (pre .0, omega (arith, few, pre .3), omega (arith, few, pre .4))
 
 route-served-requires : tie.Need-route-served-requires
 route-served-requires c κs =
-    let at-serve = c .before .before .before .before in
-    let pre = at-serve .before .before .before .before .before .before .pre in
-    let few = contacts-counted _ _ _ _ (pre .0) in (
-      is-service _ _ _ _ _ _ (pre .0) (omega (arith, few, pre .3, at-serve .serve .ensures .1)) (at-serve .serve .ensures .0),
+    let at-serve = c .before .before .before .before .before .before .before in
+    let pre = at-serve .before .before .before .before .before .before .before .before .pre in
+    let few = contacts-counted _ _ _ _ (pre .0) in
+    let filled = at-serve .serve .ensures in (
+      is-service _ _ _ _ _ _ _ (pre .0) (omega (arith, few, pre .3, filled .1)) (omega (arith, few, pre .4, filled .2)) (filled .0),
       pre .1,
       pre .2,
-      pre .4,
+      pre .5,
     )
 
 same-length : tie.Need-same-length
@@ -31,11 +32,13 @@ same-length c = search needs
 same-length-2 : tie.Need-same-length-2
 same-length-2 c = search needs
 
+same-length-3 : tie.Need-same-length-3
+same-length-3 c = search needs
+
 returns : tie.Need-returns
 returns c =
-    let at-serve = c .before .before .before .before .before .before .before in
-    route-serves _ _ (at-serve .before .before .before .before .before .before .args .ask) _ _ _ (at-serve .serve .ensures .0)
-    (c .before .before .route-served .ensures)
+    let at-serve = c .before .before .before .before .before .before .before .before .before .before in
+    route-serves _ _ (at-serve .before .before .before .before .before .before .before .before .args .ask) _ _ _ (at-serve .serve .ensures .0) (c .before .before .route-served .ensures)
 
 pub route-through-spec : {M : Type 1} → statement M
-route-through-spec = tie.close (tie.spec serve-requires route-served-requires same-length same-length-2 returns)
+route-through-spec = tie.close (tie.spec serve-requires route-served-requires same-length same-length-2 same-length-3 returns)

@@ -1,29 +1,44 @@
 -- `service::lights::begin_at` meets its contract.
 -- Assumes nothing.
+use mathlib.Core.Path.{refl}
+use native.Mathlib.Omega.{arith}
 use borrow.Author.Needs.{needs}
-use Rattle.service.proofs.PassCode.{begin-kept, begin-first}
+use Rattle.service.proofs.PassCode.{past-kept}
 use Rattle.service.proofs.lights.begin_at.Statement.{statement}
 use Rattle.service.proofs.lights.begin_at.Tie as tie
 
-mul-if1 : tie.Need-mul-if1
-mul-if1 c = search needs
+mul-row : tie.Need-mul-row
+mul-row c = search needs
 
-shared-slice-read-if1 : tie.Need-shared-slice-read-if1
-shared-slice-read-if1 c = search needs
+shared-slice-read-row : tie.Need-shared-slice-read-row
+shared-slice-read-row c = search needs
 
-mul-result : tie.Need-mul-result
-mul-result c = search needs
-
-shared-slice-read-result : tie.Need-shared-slice-read-result
-shared-slice-read-result c = search needs
+cast-row : tie.Need-cast-row
+cast-row c = omega (arith, c .shared-slice-known3 .given (c .before .before .before .args .head))
 
 returns : tie.Need-returns
-returns c = begin-kept _ _ _ _ (c .before .if1 .taken)
+returns c = search needs
+
+range-row-requires : tie.Need-range-row-requires
+range-row-requires c κs = search needs
 
 returns-2 : tie.Need-returns-2
-returns-2 c = begin-first _ _ _ _ (c .if1 .left)
+returns-2 c = search needs
+
+returns-3 : tie.Need-returns-3
+returns-3 c =
+    let at-row = c .before .before in
+    let pre = at-row .before .before .before .before .before .pre in
+    past-kept _ _ _ (pre .1) _ _ _ (pre .2 .below) refl (at-row .before .if1 .left) _ (at-row .range-row .ensures) (c .if2 .left)
 
 pub begin-at-spec : {M : Type 1} → statement M
 begin-at-spec =
     tie.close
-    (tie.spec mul-if1 shared-slice-read-if1 mul-result shared-slice-read-result returns returns-2)
+    (tie.spec
+    mul-row
+    shared-slice-read-row
+    cast-row
+    returns
+    range-row-requires
+    returns-2
+    returns-3)

@@ -1,12 +1,11 @@
 -- `service::lights::light_kept` meets its contract.
 -- Assumes nothing.
 use mathlib.Core.Path.{refl, sym, subst}
-use native.Mathlib.Omega.{arith}
 use borrow.Author.Needs.{needs}
-use lib.ListN.{length-set}
 use Rattle.lists.specs.Model.{IsPair}
-use Rattle.service.proofs.GatherCode.{pair-nodes}
-use Rattle.service.proofs.PassCode.{head-passed, head-none, kept-passed, kept-more}
+use Rattle.service.proofs.LightsCode.{open-covers}
+use Rattle.service.proofs.PassCode.{head-least, head-passed, head-open, head-none}
+use Rattle.service.proofs.SharedCode.{pair-nodes}
 use Rattle.service.proofs.lights.light_kept.Statement.{statement}
 use Rattle.service.proofs.lights.light_kept.Tie as tie
 
@@ -15,70 +14,66 @@ pair-of-requires c κs = search needs
 
 head-of-requires : tie.Need-head-of-requires
 head-of-requires c κs =
-    let pre = c .before .before .before .before .before .before .pre in
-    (subst IsPair (sym (c .pair-of .ensures)) (pair-nodes _ (pre .1)), pre .0 .a-slot-each)
+    let pre = c .before .before .before .before .before .pre in
+    (subst IsPair (sym (c .pair-of .ensures)) (pair-nodes _ (pre .2)), pre .0 .a-slot-each)
 
 returns : tie.Need-returns
 returns c =
     let at-head = c .before in
-    let pre = at-head .before .before .before .before .before .before .before .pre in
-    (head-none _ _ _ _ _ (pre .0) (pre .1) _ (at-head .before .pair-of .ensures) _ (at-head .head-of .ensures) (c .if1 .taken), pre .2, refl, refl)
+    let at-pair = at-head .before in
+    let pre = at-pair .before .before .before .before .before .pre in
+    (head-none _ _ _ _ _ (pre .0) (pre .2) _ (at-pair .pair-of .ensures) _ (at-head .head-of .ensures) (c .if1 .taken), pre .3, refl)
 
 range-row-requires : tie.Need-range-row-requires
 range-row-requires c κs = search needs
 
-light-open-requires : tie.Need-light-open-requires
-light-open-requires c κs =
-    let at-head = c .before .before .before .before .before in
-    let pre = at-head .before .before .before .before .before .before .before .pre in
-    (pre .0 .rows, pre .1, head-passed _ _ _ _ _ (pre .0) (pre .1) _ (at-head .before .pair-of .ensures) _ (at-head .head-of .ensures))
+is-covering-requires : tie.Need-is-covering-requires
+is-covering-requires c κs = search needs
 
 returns-2 : tie.Need-returns-2
-returns-2 c = (c .light-open .ensures, c .before .before .before .before .before .before .before .before .before .before .before .before .before .pre .2, refl, refl)
+returns-2 c =
+    let at-row = c .before .before in
+    let at-head = at-row .before .before in
+    let at-pair = at-head .before in
+    let pre = at-pair .before .before .before .before .before .pre in
+    let first = head-passed _ _ _ _ _ (pre .0) (pre .2) _ (at-pair .pair-of .ensures) _ (at-head .head-of .ensures) in
+    let covers = c .before .is-covering .ensures (c .if2 .taken) in (
+      open-covers _ _ _ _ (pre .0 .rows) (pre .2) _ first (at-row .before .if1 .left) _ (at-row .range-row .ensures) (covers .0) (covers .1) (covers .2),
+      pre .3,
+      refl,
+    )
 
-begin-at-requires : tie.Need-begin-at-requires
-begin-at-requires c κs =
-    let pre = c .before .before .before .before .before .before .before .before .before .before .before .before .before .before .pre in
-    (omega (arith, c .before .before .before .before .before .before .if1 .left, pre .2 .a-row-each), omega (arith, c .before .before .before .before .before .before .if1 .left, pre .2 .a-time-each))
+open-row-requires : tie.Need-open-row-requires
+open-row-requires c κs =
+    let at-if = c .before .before .before .before in
+    let at-head = at-if .before in
+    let at-pair = at-head .before in
+    let pre = at-pair .before .before .before .before .before .pre in (
+      pre .0 .rows,
+      pre .1,
+      pre .3,
+      at-if .if1 .left,
+      head-least _ _ _ _ _ (pre .0) (pre .2) _ (at-pair .pair-of .ensures) _ (at-head .head-of .ensures) (at-if .if1 .left),
+    )
 
-pass-over-requires : tie.Need-pass-over-requires
-pass-over-requires c κs =
-    let at-head = c .before .before .before .before .before .before .before .before in
-    let pre = at-head .before .before .before .before .before .before .before .pre in
-    (pre .0 .rows, kept-passed _ _ _ _ _ (pre .0) (pre .1) _ (at-head .before .pair-of .ensures) _ (at-head .head-of .ensures) (c .before .before .before .before .before .before .before .if1 .left) _ _ (pre .2) _ (c .begin-at .ensures))
-
-mul-kept-rows : tie.Need-mul-kept-rows
-mul-kept-rows c = omega (arith, c .before .before .before .before .before .before .before .before .before .before .before .before .before .before .before .before .good, c .before .before .before .before .before .before .before .before .if1 .left, c .before .before .before .before .before .before .before .before .before .before .before .before .before .before .before .before .pre .2 .a-row-each)
-
-slice-write-kept-rows : tie.Need-slice-write-kept-rows
-slice-write-kept-rows c = omega (arith, c .before .before .before .before .before .before .before .before .if1 .left, c .before .before .before .before .before .before .before .before .before .before .before .before .before .before .before .before .pre .2 .a-row-each)
-
-mul-kept-times : tie.Need-mul-kept-times
-mul-kept-times c = omega (arith, c .before .before .before .before .before .before .before .before .before .before .before .before .before .before .before .before .good, c .before .before .before .before .before .before .before .before .if1 .left, c .before .before .before .before .before .before .before .before .before .before .before .before .before .before .before .before .pre .2 .a-time-each)
-
-slice-write-kept-times : tie.Need-slice-write-kept-times
-slice-write-kept-times c = omega (arith, c .before .before .before .before .before .before .before .before .if1 .left, c .before .before .before .before .before .before .before .before .before .before .before .before .before .before .before .before .pre .2 .a-time-each)
-
-light-open-requires-2 : tie.Need-light-open-requires-2
-light-open-requires-2 c κs =
-    let pre = c .before .before .before .before .before .before .before .before .before .before .before .before .before .before .before .before .pre in
-    (pre .0 .rows, pre .1, c .pass-over .ensures)
+light-along-requires : tie.Need-light-along-requires
+light-along-requires c κs =
+    let at-open = c .before .before in
+    let at-if = at-open .before .before .before .before .before in
+    let at-head = at-if .before in
+    let at-pair = at-head .before in
+    let pre = at-pair .before .before .before .before .before .pre in (
+      pre .0 .rows,
+      pre .2,
+      head-open _ _ _ _ _ (pre .0) (pre .2) _ (at-pair .pair-of .ensures) _ (at-head .head-of .ensures) (at-if .if1 .left) _ (at-open .open-row .ensures .0),
+      pre .1,
+    )
 
 same-length : tie.Need-same-length
 same-length c = search needs
 
-same-length-2 : tie.Need-same-length-2
-same-length-2 c = search needs
-
 returns-3 : tie.Need-returns-3
-returns-3 c =
-    let at-head = c .before .before .before .before .before .before .before .before .before .before in
-    let pre = at-head .before .before .before .before .before .before .before .pre in (
-      c .light-open2 .ensures,
-      kept-more _ _ _ _ _ (pre .0) (pre .1) _ (at-head .before .pair-of .ensures) _ (at-head .head-of .ensures) (c .before .before .before .before .before .before .before .before .before .if1 .left) _ _ (pre .2) _ _ (c .before .pass-over .ensures),
-      simp length-set refl,
-      simp length-set refl,
-    )
+returns-3 c = search needs
 
 pub light-kept-spec : {M : Type 1} → statement M
 light-kept-spec =
@@ -88,15 +83,9 @@ light-kept-spec =
     head-of-requires
     returns
     range-row-requires
-    light-open-requires
+    is-covering-requires
     returns-2
-    begin-at-requires
-    pass-over-requires
-    mul-kept-rows
-    slice-write-kept-rows
-    mul-kept-times
-    slice-write-kept-times
-    light-open-requires-2
+    open-row-requires
+    light-along-requires
     same-length
-    same-length-2
     returns-3)

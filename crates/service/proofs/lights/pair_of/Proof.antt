@@ -1,7 +1,7 @@
 -- `service::lights::pair_of` meets its contract.
 -- Assumes nothing.
 use borrow.Author.Needs.{needs}
-use Rattle.service.proofs.GatherCode.{pair-is}
+use Rattle.service.proofs.SharedCode.{pair-is}
 use Rattle.service.proofs.lights.pair_of.Statement.{statement}
 use Rattle.service.proofs.lights.pair_of.Tie as tie
 

@@ -2,7 +2,6 @@
 -- Assumes nothing.
 use native.Mathlib.Omega.{arith}
 use borrow.Author.Needs.{needs}
-use Rattle.units.specs.Limits.{lastTime}
 use Rattle.lists.specs.Model.{slots, mostRows}
 use Rattle.service.proofs.ServingCode.{none-kept}
 use Rattle.service.proofs.serving.serve.Statement.{statement}
@@ -17,17 +16,17 @@ slice-aggregate-serve-in-2 c = search needs
 slice-aggregate-serve-in-3 : tie.Need-slice-aggregate-serve-in-3
 slice-aggregate-serve-in-3 c = search needs
 
-slice-aggregate-serve-in-4 : tie.Need-slice-aggregate-serve-in-4
-slice-aggregate-serve-in-4 c = search needs
-
 serve-in-requires : tie.Need-serve-in-requires
-unfolding slots mostRows lastTime
+unfolding slots mostRows
 serve-in-requires c κs =
-    let pre = c .before .before .before .before .before .before .before .before .pre in
-    (pre .0, omega arith, omega arith, none-kept _ _ (omega arith), pre .1)
+    let pre = c .before .before .before .before .before .before .before .before .before .pre in
+    (pre .0, omega arith, omega arith, none-kept _ (omega arith), pre .1, pre .2)
 
 same-length : tie.Need-same-length
 same-length c = search needs
+
+same-length-2 : tie.Need-same-length-2
+same-length-2 c = search needs
 
 returns : tie.Need-returns
 returns c = search needs
@@ -39,7 +38,7 @@ serve-spec =
     slice-aggregate-serve-in
     slice-aggregate-serve-in-2
     slice-aggregate-serve-in-3
-    slice-aggregate-serve-in-4
     serve-in-requires
     same-length
+    same-length-2
     returns)

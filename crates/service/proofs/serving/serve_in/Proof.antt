@@ -1,6 +1,7 @@
 -- `service::serving::serve_in` meets its contract.
 -- Assumes nothing.
 use borrow.Author.Needs.{needs}
+use Rattle.plan.proofs.Verdicts.{true-holds}
 use Rattle.service.proofs.ServingCode.{ranges-linkable, ranges-listed, kept-none}
 use Rattle.service.proofs.serving.serve_in.Statement.{statement}
 use Rattle.service.proofs.serving.serve_in.Tie as tie
@@ -18,8 +19,10 @@ serve-along-requires c κs =
     let linked = at-link .link .ensures in (
       pre .0,
       ranges-listed _ _ _ _ (pre .0) (start .args .heads .now) (start .args .nexts .now) (pre .1) (pre .2) _ _ (linked .0) (linked .1) (linked .2),
-      kept-none _ _ _ _ (pre .0) (start .args .heads .now) (start .args .nexts .now) (pre .1) (pre .2) _ _ (pre .3),
+      kept-none _ _ _ _ (pre .0) (start .args .heads .now) (start .args .nexts .now) (pre .1) (pre .2) _ (pre .3),
+      true-holds (linked .3),
       pre .4,
+      pre .5,
     )
 
 same-length : tie.Need-same-length
@@ -43,4 +46,12 @@ returns c = search needs
 pub serve-in-spec : {M : Type 1} → statement M
 serve-in-spec =
     tie.close
-    (tie.spec link-requires serve-along-requires same-length same-length-2 same-length-3 same-length-4 same-length-5 returns)
+    (tie.spec
+    link-requires
+    serve-along-requires
+    same-length
+    same-length-2
+    same-length-3
+    same-length-4
+    same-length-5
+    returns)

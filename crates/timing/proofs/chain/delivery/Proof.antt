@@ -13,28 +13,28 @@ use Rattle.timing.proofs.chain.delivery.Statement.{statement}
 use Rattle.timing.proofs.chain.delivery.Tie as tie
 
 abbrev Inv-loop : tie.InvT-loop
-Inv-loop contacts contact-count pairs ask chain node₀ ready₀ i₀ node ready i =
+Inv-loop contacts contact-count lights lefts ask chain node₀ ready₀ i₀ node ready i =
     (i ≤ length chain) × (ready .0 ≤ lastTime + mostLight)
-    × (deliveryOf (served contacts contact-count pairs) ask chain
-    ≡ carry (served contacts contact-count pairs) ask (node .0) (ready .0) (drop i chain))
+    × (deliveryOf (served contacts contact-count lights lefts) ask chain
+    ≡ carry (served contacts contact-count lights lefts) ask (node .0) (ready .0) (drop i chain))
 
 abbrev μ-loop : tie.MeasureT-loop
-μ-loop contacts contact-count pairs ask chain node₀ ready₀ i₀ node ready i = length chain - i
+μ-loop contacts contact-count lights lefts ask chain node₀ ready₀ i₀ node ready i = length chain - i
 
 loop-holds : tie.Need-loop-holds Inv-loop μ-loop
 unfolding deliveryOf
-loop-holds c = let pre = c .before .before .before .before .before .pre in (omega arith, omega (arith, pre .2), refl)
+loop-holds c = let pre = c .before .before .before .before .before .before .pre in (omega arith, omega (arith, pre .2), refl)
 
-mul-t12 : tie.Need-mul-t12 Inv-loop μ-loop
-mul-t12 c = search needs
+mul-t13 : tie.Need-mul-t13 Inv-loop μ-loop
+mul-t13 c = search needs
 
-shared-slice-read-t15 : tie.Need-shared-slice-read-t15 Inv-loop μ-loop
-shared-slice-read-t15 c = search needs
+shared-slice-read-t16 : tie.Need-shared-slice-read-t16 Inv-loop μ-loop
+shared-slice-read-t16 c = search needs
 
 step-requires : tie.Need-step-requires Inv-loop μ-loop
 step-requires c κs =
     let at-loop = c .before .before in
-    let pre = at-loop .before .before .before .before .before .before .pre in
+    let pre = at-loop .before .before .before .before .before .before .before .pre in
     (pre .0, pre .1, at-loop .loop .inv .1)
 
 enum-known-arrival : tie.Need-enum-known-arrival Inv-loop μ-loop
@@ -55,14 +55,14 @@ contact-numbered-requires : tie.Need-contact-numbered-requires Inv-loop μ-loop
 contact-numbered-requires c κs =
     let at-step = c .before .before .before in
     let at-loop = at-step .before .before .before in
-    let pre = at-loop .before .before .before .before .before .before .pre in
+    let pre = at-loop .before .before .before .before .before .before .before .pre in
     let named = steps-in-plan _ _ _ _ _ _ (sym (at-step .step .ensures) ∙ c .before .arrival .given .1) in
-    omega (arith, named .least, named-at-most _ _ _ _ named, pre .0 .contacts-lent)
+    omega (arith, named .least, named-at-most _ _ _ _ _ named, pre .0 .contacts-lent)
 
 add-i : tie.Need-add-i Inv-loop μ-loop
 add-i c =
     let at-test = c .before .before .before .before .before .before .before in
-    omega (arith, at-test .loop-test .taken, at-test .before .before .before .before .before .before .before .good)
+    omega (arith, at-test .loop-test .taken, at-test .before .before .before .before .before .before .before .before .good)
 
 loop-less : tie.Need-loop-less Inv-loop μ-loop
 loop-less c = omega arith
@@ -72,11 +72,11 @@ loop-again c =
     let at-row = c .before in
     let at-step = at-row .before .before .before .before in
     let at-loop = at-step .before .before .before in
-    let pre = at-loop .before .before .before .before .before .before .pre in
+    let pre = at-loop .before .before .before .before .before .before .before .pre in
     let stepped = sym (at-step .step .ensures) ∙ at-row .before .before .arrival .given .1 in (
       omega arith,
       step-bounded _ (pre .0 .sound) _ _ _ _ _ stepped,
-      at-loop .loop .inv .2 ∙ carry-lent _ _ _ _ _ _ _ _ _ _ (at-step .before .before .loop-test .taken) stepped (at-row .contact-numbered .ensures),
+      at-loop .loop .inv .2 ∙ carry-lent _ _ _ _ _ _ _ _ _ _ _ (at-step .before .before .loop-test .taken) stepped (at-row .contact-numbered .ensures),
     )
 
 returns-2 : tie.Need-returns-2 Inv-loop μ-loop
@@ -96,8 +96,8 @@ delivery-spec =
     Inv-loop
     μ-loop
     loop-holds
-    mul-t12
-    shared-slice-read-t15
+    mul-t13
+    shared-slice-read-t16
     step-requires
     enum-known-arrival
     enum-told

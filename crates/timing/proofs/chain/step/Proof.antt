@@ -11,7 +11,7 @@ goes-on-requires c κs = search needs
 
 over-requires : tie.Need-over-requires
 over-requires c κs =
-    let pre = c .before .before .before .before .pre in
+    let pre = c .before .before .before .before .before .pre in
     (pre .0, goes-in-plan _ _ _ _ (sym (c .before .goes-on .ensures) ∙ c .if1 .taken), pre .1, pre .2)
 
 returns : tie.Need-returns

@@ -21,9 +21,6 @@ link-requires c κs =
       pairs = pre .0 .pairs;
     }
 
-are-in-order-requires : tie.Need-are-in-order-requires
-are-in-order-requires c κs = search needs
-
 same-length : tie.Need-same-length
 same-length c = search needs
 
@@ -32,9 +29,10 @@ same-length-2 c = search needs
 
 returns : tie.Need-returns
 returns c =
-    let at-link = c .before .before .before .before .before .before .before in
+    let at-link = c .before .before .before .before .before in
     let pre = at-link .before .before .before .before .before .before .pre in
-    holds (order-apart _ _ _ (at-link .link .ensures .0 .next) (pre .0 .starts) (true-holds (c .before .are-in-order .ensures) (c .if1 .taken)))
+    let linked = at-link .link .ensures in
+    holds (order-apart _ _ _ (linked .0 .next) (pre .0 .starts) (true-holds (linked .3) (c .if1 .taken)))
 
 are-clear-requires : tie.Need-are-clear-requires
 are-clear-requires c κs = search needs
@@ -53,7 +51,6 @@ are-apart-spec =
     tie.close
     (tie.spec
     link-requires
-    are-in-order-requires
     same-length
     same-length-2
     returns

@@ -1,4 +1,4 @@
--- `validity::apart::is_clear_after` meets its contract. The loop's invariant: the walk has come to row j, and no row of the pair before it overlaps row i.
+-- `validity::apart::is_clear_after` meets its contract. The loop's invariant: the walk has come to row j, and no row of the slot before it overlaps row i.
 -- Assumes nothing.
 use Prim.Native.Nat.{_-_}
 use native.Mathlib.Omega.{arith}

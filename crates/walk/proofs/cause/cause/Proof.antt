@@ -14,17 +14,17 @@ use Rattle.walk.proofs.cause.cause.Statement.{statement}
 use Rattle.walk.proofs.cause.cause.Tie as tie
 
 abbrev Inv-loop : tie.InvT-loop
-Inv-loop contacts contact-count pairs ask chain node₀ ready₀ i₀ node ready i =
+Inv-loop contacts contact-count lights lefts ask chain node₀ ready₀ i₀ node ready i =
     (i ≤ length chain) × (ready .0 ≤ lastTime + mostLight)
-    × (causeOf (served contacts contact-count pairs) ask chain
-    ≡ causeFrom (served contacts contact-count pairs) ask (node .0) (ready .0) i (drop i chain))
+    × (causeOf (served contacts contact-count lights lefts) ask chain
+    ≡ causeFrom (served contacts contact-count lights lefts) ask (node .0) (ready .0) i (drop i chain))
 
 abbrev μ-loop : tie.MeasureT-loop
-μ-loop contacts contact-count pairs ask chain node₀ ready₀ i₀ node ready i = length chain - i
+μ-loop contacts contact-count lights lefts ask chain node₀ ready₀ i₀ node ready i = length chain - i
 
 loop-holds : tie.Need-loop-holds Inv-loop μ-loop
 unfolding causeOf
-loop-holds c = let pre = c .before .before .before .before .before .pre in (omega arith, omega (arith, pre .2), refl)
+loop-holds c = let pre = c .before .before .before .before .before .before .pre in (omega arith, omega (arith, pre .2), refl)
 
 mul-position : tie.Need-mul-position Inv-loop μ-loop
 mul-position c = search needs
@@ -35,12 +35,12 @@ shared-slice-read-position c = search needs
 add-position : tie.Need-add-position Inv-loop μ-loop
 add-position c =
     let at-test = c .before in
-    omega (arith, at-test .loop-test .taken, at-test .before .before .before .before .before .before .before .good)
+    omega (arith, at-test .loop-test .taken, at-test .before .before .before .before .before .before .before .before .good)
 
 judge-requires : tie.Need-judge-requires Inv-loop μ-loop
 judge-requires c κs =
     let at-loop = c .before .before in
-    let pre = at-loop .before .before .before .before .before .before .pre in
+    let pre = at-loop .before .before .before .before .before .before .before .pre in
     (pre .0, pre .1, at-loop .loop .inv .1)
 
 enum-known-found : tie.Need-enum-known-found Inv-loop μ-loop
@@ -50,14 +50,14 @@ contact-numbered-requires : tie.Need-contact-numbered-requires Inv-loop μ-loop
 contact-numbered-requires c κs =
     let at-judge = c .before .before .before in
     let at-loop = at-judge .before .before .before in
-    let pre = at-loop .before .before .before .before .before .before .pre in
+    let pre = at-loop .before .before .before .before .before .before .before .pre in
     let named = judged-in-plan _ _ _ _ _ _ _ (sym (at-judge .judge .ensures) ∙ c .before .found .given .1) in
-    omega (arith, named .least, named-at-most _ _ _ _ named, pre .0 .contacts-lent)
+    omega (arith, named .least, named-at-most _ _ _ _ _ named, pre .0 .contacts-lent)
 
 add-i : tie.Need-add-i Inv-loop μ-loop
 add-i c =
     let at-test = c .before .before .before .before .before .before .before in
-    omega (arith, at-test .loop-test .taken, at-test .before .before .before .before .before .before .before .good)
+    omega (arith, at-test .loop-test .taken, at-test .before .before .before .before .before .before .before .before .good)
 
 loop-less : tie.Need-loop-less Inv-loop μ-loop
 loop-less c = omega arith
@@ -67,11 +67,11 @@ loop-again c =
     let at-row = c .before in
     let at-judge = at-row .before .before .before .before in
     let at-loop = at-judge .before .before .before in
-    let pre = at-loop .before .before .before .before .before .before .pre in
+    let pre = at-loop .before .before .before .before .before .before .before .pre in
     let passed = sym (at-judge .judge .ensures) ∙ at-row .before .before .found .given .1 in (
       omega arith,
       judged-bounded _ _ _ _ (pre .0 .sound) _ _ _ passed,
-      at-loop .loop .inv .2 ∙ cause-lent _ _ _ _ _ _ _ _ _ _ (at-judge .before .before .loop-test .taken) passed (at-row .contact-numbered .ensures),
+      at-loop .loop .inv .2 ∙ cause-lent _ _ _ _ _ _ _ _ _ _ _ (at-judge .before .before .loop-test .taken) passed (at-row .contact-numbered .ensures),
     )
 
 enum-known-found-2 : tie.Need-enum-known-found-2 Inv-loop μ-loop

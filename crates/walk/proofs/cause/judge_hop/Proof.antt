@@ -9,8 +9,8 @@ use Rattle.walk.proofs.cause.judge_hop.Tie as tie
 
 light-numbered-requires : tie.Need-light-numbered-requires
 light-numbered-requires c κs =
-    let pre = c .before .before .pre in
-    omega (arith, pre .1 .least, named-at-most _ _ _ _ (pre .1), pre .0 .pairs-lent)
+    let pre = c .before .before .before .pre in
+    omega (arith, pre .1 .least, named-at-most _ _ _ _ _ (pre .1), pre .0 .lights-lent)
 
 enum-told : tie.Need-enum-told
 enum-told c = search needs
@@ -21,7 +21,7 @@ enum-told-2 c = search needs
 returns : tie.Need-returns
 returns c =
     let at-light = c .before .before in
-    hop-unranged _ _ _ _ (at-light .before .before .before .pre .1) _ _ _ _ (at-light .light-numbered .ensures) (c .enum-told2 .given .1)
+    hop-unranged _ _ _ _ _ (at-light .before .before .before .before .pre .1) _ _ _ _ (at-light .light-numbered .ensures) (c .enum-told2 .given .1)
 
 over-requires : tie.Need-over-requires
 over-requires c κs = search needs
@@ -36,14 +36,14 @@ returns-2 : tie.Need-returns-2
 returns-2 c =
     let at-told = c .before .before .before in
     let at-light = at-told .before .before in
-    hop-unfit _ _ _ _ (at-light .before .before .before .pre .1) _ _ _ _ (at-light .light-numbered .ensures) _ _ (at-told .enum-told .given .1)
+    hop-unfit _ _ _ _ _ (at-light .before .before .before .before .pre .1) _ _ _ _ (at-light .light-numbered .ensures) _ _ (at-told .enum-told .given .1)
     (c .before .before .over .ensures) (c .enum-told3 .given .1)
 
 returns-3 : tie.Need-returns-3
 returns-3 c =
     let at-told = c .before .before .before .before in
     let at-light = at-told .before .before in
-    hop-good _ _ _ _ (at-light .before .before .before .pre .1) _ _ _ _ (at-light .light-numbered .ensures) _ _ _ (at-told .enum-told .given .1)
+    hop-good _ _ _ _ _ (at-light .before .before .before .before .pre .1) _ _ _ _ (at-light .light-numbered .ensures) _ _ _ (at-told .enum-told .given .1)
     (c .before .before .before .over .ensures) (c .before .arrival .given .1)
 
 pub judge-hop-spec : {M : Type 1} → statement M

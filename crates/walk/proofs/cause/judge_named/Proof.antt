@@ -11,24 +11,24 @@ use Rattle.walk.proofs.cause.judge_named.Tie as tie
 
 contact-numbered-requires : tie.Need-contact-numbered-requires
 contact-numbered-requires c κs =
-    let pre = c .before .before .pre in
-    omega (arith, pre .1 .least, named-at-most _ _ _ _ (pre .1), pre .0 .contacts-lent)
+    let pre = c .before .before .before .pre in
+    omega (arith, pre .1 .least, named-at-most _ _ _ _ _ (pre .1), pre .0 .contacts-lent)
 
 returns : tie.Need-returns
 returns c =
     let at-row = c .before .before .before in
-    named-apart _ _ _ _ (at-row .before .before .before .pre .1) _ _ _ _ _ (at-row .contact-numbered .ensures) (c .if1 .taken)
+    named-apart _ _ _ _ _ (at-row .before .before .before .before .pre .1) _ _ _ _ _ (at-row .contact-numbered .ensures) (c .if1 .taken)
 
 is-barred-requires : tie.Need-is-barred-requires
 is-barred-requires c κs =
     let at-row = c .before .before .before in
-    let pre = at-row .before .before .before .pre in
-    subst GoodContact (sym (at-row .contact-numbered .ensures)) (named-good _ _ _ _ (pre .0) (pre .1))
+    let pre = at-row .before .before .before .before .pre in
+    subst GoodContact (sym (at-row .contact-numbered .ensures)) (named-good _ _ _ _ _ (pre .0) (pre .1))
 
 returns-2 : tie.Need-returns-2
 returns-2 c =
     let at-row = c .before .before .before .before .before in
-    named-barred _ _ _ _ (at-row .before .before .before .pre .1) _ _ _ _ _ (at-row .contact-numbered .ensures) (c .before .before .if1 .left) _
+    named-barred _ _ _ _ _ (at-row .before .before .before .before .pre .1) _ _ _ _ _ (at-row .contact-numbered .ensures) (c .before .before .if1 .left) _
     (c .before .is-barred .ensures) (c .if2 .taken)
 
 judge-hop-requires : tie.Need-judge-hop-requires
@@ -37,7 +37,7 @@ judge-hop-requires c κs = search needs
 returns-3 : tie.Need-returns-3
 returns-3 c =
     let at-row = c .before .before .before .before .before .before in
-    named-hops _ _ _ _ (at-row .before .before .before .pre .1) _ _ _ _ _ (at-row .contact-numbered .ensures) (c .before .before .before .if1 .left) _
+    named-hops _ _ _ _ _ (at-row .before .before .before .before .pre .1) _ _ _ _ _ (at-row .contact-numbered .ensures) (c .before .before .before .if1 .left) _
     (c .before .before .is-barred .ensures) (c .before .if2 .left) _ (c .judge-hop .ensures)
 
 pub judge-named-spec : {M : Type 1} → statement M

@@ -14,16 +14,16 @@ use Rattle.walk.proofs.last_call.back_over.Reads as back-over-reads
 use Rattle.walk.proofs.last_call.+limit_part.{statement}
 use Rattle.walk.proofs.last_call.+limit_part.Tie.{close}
 
-abbrev μ-limit-part : Measures 3 limit-part-kinds.ps ℕ
-μ-limit-part κs a = a .1 .1 .1 .1 .1 .1 .0
+abbrev μ-limit-part : Measures 4 limit-part-kinds.ps ℕ
+μ-limit-part κs a = a .1 .1 .1 .1 .1 .1 .1 .0
 
-abbrev limit-part-at : ℕ → In 3 limit-part-kinds.ps
+abbrev limit-part-at : ℕ → In 4 limit-part-kinds.ps
 limit-part-at t =
-    and 3 limit-part-kinds.ps (is 3 limit-part-kinds.ps μ-limit-part t) limit-part.Pre
+    and 4 limit-part-kinds.ps (is 4 limit-part-kinds.ps μ-limit-part t) limit-part.Pre
 
-abbrev limit-part-below : ℕ → In 3 limit-part-kinds.ps
+abbrev limit-part-below : ℕ → In 4 limit-part-kinds.ps
 limit-part-below t =
-    and 3 limit-part-kinds.ps (falls 3 limit-part-kinds.ps _<_ μ-limit-part t) limit-part.Pre
+    and 4 limit-part-kinds.ps (falls 4 limit-part-kinds.ps _<_ μ-limit-part t) limit-part.Pre
 
 limit-part-returns : (t : ℕ) → limit-part-lts.Need-returns (
   back-over-reads.Asked,
@@ -41,29 +41,29 @@ limit-part-sub-last : (t : ℕ) → limit-part-lts.Need-sub-last (
 ) (limit-part-at t) limit-part.Post
 limit-part-sub-last t c = omega arith
 
-limit-part-add-t13 : (t : ℕ) → limit-part-lts.Need-add-t13 (
+limit-part-add-t14 : (t : ℕ) → limit-part-lts.Need-add-t14 (
   back-over-reads.Asked,
   back-over-reads.Learnt,
   limit-part-below t,
   limit-part.Post,
 ) (limit-part-at t) limit-part.Post
-limit-part-add-t13 t c = let start = c .before .before .before .before in omega (arith, start .pre .1 .3, start .good)
+limit-part-add-t14 t c = let start = c .before .before .before .before .before in omega (arith, start .pre .1 .3, start .good)
 
-limit-part-mul-t14 : (t : ℕ) → limit-part-lts.Need-mul-t14 (
+limit-part-mul-t15 : (t : ℕ) → limit-part-lts.Need-mul-t15 (
   back-over-reads.Asked,
   back-over-reads.Learnt,
   limit-part-below t,
   limit-part.Post,
 ) (limit-part-at t) limit-part.Post
-limit-part-mul-t14 t c = search needs
+limit-part-mul-t15 t c = search needs
 
-limit-part-shared-slice-read-t16 : (t : ℕ) → limit-part-lts.Need-shared-slice-read-t16 (
+limit-part-shared-slice-read-t17 : (t : ℕ) → limit-part-lts.Need-shared-slice-read-t17 (
   back-over-reads.Asked,
   back-over-reads.Learnt,
   limit-part-below t,
   limit-part.Post,
 ) (limit-part-at t) limit-part.Post
-limit-part-shared-slice-read-t16 t c = let start = c .before .before .before .before .before in omega (arith, start .pre .1 .3, c .before .if1 .left)
+limit-part-shared-slice-read-t17 t c = let start = c .before .before .before .before .before .before in omega (arith, start .pre .1 .3, c .before .if1 .left)
 
 limit-part-back-over-requires : (t : ℕ) → limit-part-lts.Need-back-over-requires (
   back-over-reads.Asked,
@@ -73,7 +73,7 @@ limit-part-back-over-requires : (t : ℕ) → limit-part-lts.Need-back-over-requ
 ) (limit-part-at t) limit-part.Post
 unfolding Each
 limit-part-back-over-requires t c κs =
-    let pre = c .before .before .before .before .before .pre .1 in
+    let pre = c .before .before .before .before .before .before .pre .1 in
     (pre .0, pre .1 0 _ (omega (arith, pre .3, c .before .if1 .left)), pre .2)
 
 limit-part-limit-part-requires : (t : ℕ) → limit-part-lts.Need-limit-part-requires (
@@ -83,7 +83,7 @@ limit-part-limit-part-requires : (t : ℕ) → limit-part-lts.Need-limit-part-re
   limit-part.Post,
 ) (limit-part-at t) limit-part.Post
 limit-part-limit-part-requires t c κs =
-    let start = c .before .before .before .before .before .before in
+    let start = c .before .before .before .before .before .before .before in
     let pre = start .pre .1 in
     (omega (arith, start .pre .0, c .before .before .if1 .left), (pre .0, pre .1, pre .2, omega (arith, pre .3)))
 
@@ -94,7 +94,7 @@ limit-part-returns-2 : (t : ℕ) → limit-part-lts.Need-returns-2 (
   limit-part.Post,
 ) (limit-part-at t) limit-part.Post
 limit-part-returns-2 t c =
-    let pre = c .before .before .before .before .before .before .before .pre .1 in
+    let pre = c .before .before .before .before .before .before .before .before .pre .1 in
     part-more _ _ _ _ _ _ _ _ (pre .3) (c .before .before .before .if1 .left) (c .before .back-over .ensures) (c .limit-part .ensures)
 
 pub +limit-part-spec : {M : Type 1} → statement M
@@ -108,9 +108,9 @@ pub +limit-part-spec : {M : Type 1} → statement M
     limit-part.Post
     (limit-part-returns t)
     (limit-part-sub-last t)
-    (limit-part-add-t13 t)
-    (limit-part-mul-t14 t)
-    (limit-part-shared-slice-read-t16 t)
+    (limit-part-add-t14 t)
+    (limit-part-mul-t15 t)
+    (limit-part-shared-slice-read-t17 t)
     (limit-part-back-over-requires t)
     (limit-part-limit-part-requires t)
     (limit-part-returns-2 t)

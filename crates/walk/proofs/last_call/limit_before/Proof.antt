@@ -13,13 +13,13 @@ use Rattle.walk.proofs.last_call.limit_before.Statement.{statement}
 use Rattle.walk.proofs.last_call.limit_before.Tie as tie
 
 abbrev Inv-loop : tie.InvT-loop
-Inv-loop contacts contact-count pairs ask chain before₀ end₀ before end =
+Inv-loop contacts contact-count lights lefts ask chain before₀ end₀ before end =
     (end ≤ length chain)
-    × (limitBefore (served contacts contact-count pairs) ask chain (before₀ .0)
-    ≡ limitBefore (served contacts contact-count pairs) ask (take end chain) (before .0))
+    × (limitBefore (served contacts contact-count lights lefts) ask chain (before₀ .0)
+    ≡ limitBefore (served contacts contact-count lights lefts) ask (take end chain) (before .0))
 
 abbrev μ-loop : tie.MeasureT-loop
-μ-loop contacts contact-count pairs ask chain before₀ end₀ before end = end
+μ-loop contacts contact-count lights lefts ask chain before₀ end₀ before end = end
 
 loop-holds : tie.Need-loop-holds Inv-loop μ-loop
 loop-holds c = (omega arith, rw take-length)
@@ -32,7 +32,7 @@ sub-end c = omega arith
 
 limit-part-requires : tie.Need-limit-part-requires Inv-loop μ-loop
 limit-part-requires c κs =
-    let pre = c .before .before .before .before .before .before .pre in
+    let pre = c .before .before .before .before .before .before .before .pre in
     (pre .0, pre .1, pre .2, omega (arith, c .at-most .ensures, c .before .before .loop .inv .0))
 
 loop-less : tie.Need-loop-less Inv-loop μ-loop

@@ -16,7 +16,7 @@ is-before-requires c κs = search needs
 
 returns : tie.Need-returns
 unfolding carriesSize
-returns c = c .is-before .ensures ∙ ap (λ (a : Arrival). isBefore a (c .before .before .before .before .before .before .args .ask .deadline .0)) (c .before .delivery .ensures)
+returns c = c .is-before .ensures ∙ ap (λ (a : Arrival). isBefore a (c .before .before .before .before .before .before .before .args .ask .deadline .0)) (c .before .delivery .ensures)
 
 pub is-carried-spec : {M : Type 1} → statement M
 is-carried-spec = tie.close (tie.spec delivery-requires is-before-requires returns)

@@ -11,7 +11,7 @@ use Rattle.walk.proofs.room.raise.Tie as tie
 
 add-more : tie.Need-add-more
 unfolding mostSize
-add-more c = let pre = c .before .before .before .pre in omega (arith, pre .2, pre .3)
+add-more c = let pre = c .before .before .before .before .pre in omega (arith, pre .2, pre .3)
 
 returns : tie.Need-returns
 unfolding mostSize
@@ -19,7 +19,7 @@ returns c = rw (lt-leb _ _ (c .if1 .taken))
 
 is-carried-requires : tie.Need-is-carried-requires
 unfolding mostSize
-is-carried-requires c κs = let pre = c .before .before .before .before .pre in (pre .0, c .if1 .left, pre .1)
+is-carried-requires c κs = let pre = c .before .before .before .before .before .pre in (pre .0, c .if1 .left, pre .1)
 
 returns-2 : tie.Need-returns-2
 unfolding mostSize

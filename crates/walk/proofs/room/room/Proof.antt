@@ -12,13 +12,13 @@ use Rattle.walk.proofs.room.room.Statement.{statement}
 use Rattle.walk.proofs.room.room.Tie as tie
 
 abbrev Inv-loop : tie.InvT-loop
-Inv-loop contacts contact-count pairs ask chain size₀ bit₀ bits₀ size bit bits =
+Inv-loop contacts contact-count lights lefts ask chain size₀ bit₀ bits₀ size bit bits =
     (bits ≤ 30) × (bit ≡ 2 ^ bits) × (size ≤ mostSize)
-    × (roomOf (served contacts contact-count pairs) ask chain
-    ≡ roomFrom (served contacts contact-count pairs) ask chain size bits)
+    × (roomOf (served contacts contact-count lights lefts) ask chain
+    ≡ roomFrom (served contacts contact-count lights lefts) ask chain size bits)
 
 abbrev μ-loop : tie.MeasureT-loop
-μ-loop contacts contact-count pairs ask chain size₀ bit₀ bits₀ size bit bits = bits
+μ-loop contacts contact-count lights lefts ask chain size₀ bit₀ bits₀ size bit bits = bits
 
 loop-holds : tie.Need-loop-holds Inv-loop μ-loop
 loop-holds c = (omega arith, refl, omega arith, room-begins _ _ _)
@@ -29,7 +29,7 @@ sub-bits c = search needs
 raise-requires : tie.Need-raise-requires Inv-loop μ-loop
 raise-requires c κs =
     let inv = c .before .loop .inv in
-    let pre = c .before .before .before .before .before .pre in
+    let pre = c .before .before .before .before .before .before .pre in
     let next = halved _ _ (c .loop-test .taken) (inv .1) in
     (pre .0, pre .1, inv .2, subst (λ (n : ℕ). n ≤ 2 ^ 30) (sym next) (bit-most _ (omega (arith, inv .0))))
 

@@ -27,7 +27,7 @@ figures-of-requires : tie.Need-figures-of-requires
 figures-of-requires c κs =
     let at-arrival = c .before .before .before .before in
     let at-delivery = at-arrival .before .before in
-    let pre = at-delivery .before .before .before .before .pre in
+    let pre = at-delivery .before .before .before .before .before .pre in
     let allowed = allowed-delivery _ _ (pre .2) _ _ .0 (sym (at-delivery .delivery .ensures) ∙ at-arrival .arrival .given .1) in
     (pre .0, carries-named _ _ (allowed .carried), pre .1, allowed .some-contact)
 
