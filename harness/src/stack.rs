@@ -3,7 +3,7 @@
 //! The work runs in a thread whose stack is memory of our own, painted before.
 //! While that thread waits, the lowest word that is no longer painted is
 //! looked up. The figure is the distance from there to the frame that began
-//! the work, so it has the frames of the caller in it, some 100 bytes. What
+//! the work, so it has the frames of the caller in it, 200 to 300 bytes. What
 //! the last frame keeps free and never writes is not seen.
 
 use std::alloc::{alloc, dealloc, handle_alloc_error, Layout};

@@ -38,119 +38,41 @@ pub fn by_second(call: &Call, memory: &mut Memory) -> Wanted {
 
 /// The answer's figures in their order.
 fn answered(call: &Call, memory: &mut Memory) -> Result<Vec<u64>, Refusal> {
-    match call.function {
-        Function::Read => by_read(memory),
-        Function::Write => by_write(call, memory),
-        Function::Walk => by_walk(call, memory),
-        Function::Route => by_route(call, memory),
-        Function::WalkBooked => by_walk_booked(call, memory),
-        Function::RouteBooked => by_route_booked(call, memory),
-        Function::BookRoute => by_book_route(call, memory),
-        Function::Release => by_release(call, memory),
-    }
+    let (contacts, ranges) = (memory.contacts.slice_mut(), memory.ranges.slice_mut());
+    let (book, booked) = (memory.book.slice_mut(), memory.booked.slice_mut());
+    let (chain, bytes) = (memory.chain.slice_mut(), memory.bytes.slice_mut());
+    let (m, n) = (call.contact_count, call.range_count);
+    let (ask, class) = (call.ask, call.class);
+    let figures = match call.function {
+        Function::Read => {
+            let counts = read(bytes, contacts, ranges)?;
+            vec![counts.0 as u64, counts.1 as u64]
+        }
+        Function::Write => vec![write(contacts, m, ranges, n, bytes)? as u64],
+        Function::Walk => words(walk(contacts, m, ranges, n, ask, chain)?),
+        Function::Route => routed_words(route(contacts, m, ranges, n, ask, chain)?),
+        Function::WalkBooked => {
+            let walked = walk_booked(contacts, m, ranges, n, book, booked, ask, class, chain);
+            words(walked?)
+        }
+        Function::RouteBooked => {
+            let routed = route_booked(contacts, m, ranges, n, book, booked, ask, class, chain);
+            routed_words(routed?)
+        }
+        Function::BookRoute => {
+            let routed = book_route(contacts, m, ranges, n, book, booked, ask, class, chain);
+            let (routed, place) = routed?;
+            [routed_words(routed), vec![place]].concat()
+        }
+        Function::Release => {
+            release(contacts, m, ranges, n, book, booked, call.place)?;
+            Vec::new()
+        }
+    };
+    Ok(figures)
 }
 
-fn by_read(memory: &mut Memory) -> Result<Vec<u64>, Refusal> {
-    let text = memory.bytes.slice();
-    let tables = (memory.contacts.slice_mut(), memory.ranges.slice_mut());
-    let counts = read(text, tables.0, tables.1)?;
-    Ok(vec![counts.0 as u64, counts.1 as u64])
-}
-
-fn by_write(call: &Call, memory: &mut Memory) -> Result<Vec<u64>, Refusal> {
-    let length = write(
-        memory.contacts.slice(),
-        call.contact_count,
-        memory.ranges.slice(),
-        call.range_count,
-        memory.bytes.slice_mut(),
-    )?;
-    Ok(vec![length as u64])
-}
-
-fn by_walk(call: &Call, memory: &mut Memory) -> Result<Vec<u64>, Refusal> {
-    let figures = walk(
-        memory.contacts.slice(),
-        call.contact_count,
-        memory.ranges.slice(),
-        call.range_count,
-        call.ask,
-        memory.chain.slice(),
-    )?;
-    Ok(words(&figures))
-}
-
-fn by_route(call: &Call, memory: &mut Memory) -> Result<Vec<u64>, Refusal> {
-    let routed = route(
-        memory.contacts.slice(),
-        call.contact_count,
-        memory.ranges.slice(),
-        call.range_count,
-        call.ask,
-        memory.chain.slice_mut(),
-    )?;
-    Ok(routed_words(&routed))
-}
-
-fn by_walk_booked(call: &Call, memory: &mut Memory) -> Result<Vec<u64>, Refusal> {
-    let figures = walk_booked(
-        memory.contacts.slice(),
-        call.contact_count,
-        memory.ranges.slice(),
-        call.range_count,
-        memory.book.slice(),
-        memory.booked.slice(),
-        call.ask,
-        call.class,
-        memory.chain.slice(),
-    )?;
-    Ok(words(&figures))
-}
-
-fn by_route_booked(call: &Call, memory: &mut Memory) -> Result<Vec<u64>, Refusal> {
-    let routed = route_booked(
-        memory.contacts.slice(),
-        call.contact_count,
-        memory.ranges.slice(),
-        call.range_count,
-        memory.book.slice(),
-        memory.booked.slice(),
-        call.ask,
-        call.class,
-        memory.chain.slice_mut(),
-    )?;
-    Ok(routed_words(&routed))
-}
-
-fn by_book_route(call: &Call, memory: &mut Memory) -> Result<Vec<u64>, Refusal> {
-    let (routed, place) = book_route(
-        memory.contacts.slice(),
-        call.contact_count,
-        memory.ranges.slice(),
-        call.range_count,
-        memory.book.slice_mut(),
-        memory.booked.slice_mut(),
-        call.ask,
-        call.class,
-        memory.chain.slice_mut(),
-    )?;
-    Ok([routed_words(&routed), vec![place]].concat())
-}
-
-fn by_release(call: &Call, memory: &mut Memory) -> Result<Vec<u64>, Refusal> {
-    release(
-        memory.contacts.slice(),
-        call.contact_count,
-        memory.ranges.slice(),
-        call.range_count,
-        memory.book.slice_mut(),
-        memory.booked.slice(),
-        call.place,
-    )?;
-    Ok(Vec::new())
-}
-
-fn words(figures: &Figures) -> Vec<u64> {
+fn words(figures: Figures) -> Vec<u64> {
     vec![
         figures.delivery,
         figures.opens,
@@ -159,6 +81,6 @@ fn words(figures: &Figures) -> Vec<u64> {
     ]
 }
 
-fn routed_words(routed: &Routed) -> Vec<u64> {
-    [words(&routed.figures), vec![routed.count]].concat()
+fn routed_words(routed: Routed) -> Vec<u64> {
+    [words(routed.figures), vec![routed.count]].concat()
 }

@@ -27,6 +27,18 @@ pub struct GoodAsk {
 }
 
 impl Ask {
+    /// The six numbers in the order of an ask's line.
+    pub fn numbers(&self) -> [u64; 6] {
+        [
+            self.source,
+            self.destination,
+            self.time,
+            self.size,
+            self.deadline,
+            self.excluded,
+        ]
+    }
+
     /// The ask with its kinds of number told apart, or refusal 11 or 12: an
     /// ask without a class is one of the lowest.
     pub fn check(self) -> Result<GoodAsk, Refusal> {

@@ -6,7 +6,7 @@
 #![allow(clippy::too_many_arguments)]
 
 use crate::ask::Ask;
-use crate::book::{self, Book, EMPTY_BOOK, EMPTY_BOOKED};
+use crate::book::{self, Book};
 use crate::plan::Plan;
 use crate::refusal::{Refusal, BOOK_FULL, NOT_OPEN, SHORT_CHAIN};
 use crate::route::Network;
@@ -30,17 +30,8 @@ pub fn walk(
     ask: Ask,
     chain: &[u64],
 ) -> Result<Figures, Refusal> {
-    walk_booked(
-        contacts,
-        contact_count,
-        ranges,
-        range_count,
-        &EMPTY_BOOK,
-        &EMPTY_BOOKED,
-        ask,
-        Class::LOWEST.0,
-        chain,
-    )
+    let plan = Plan::of_tables(contacts, contact_count, ranges, range_count)?;
+    walked(&plan, &Book::default(), ask, Class::LOWEST.0, chain)
 }
 
 /// Finds the best chain for an ask and fills it into the lent places.
@@ -52,17 +43,10 @@ pub fn route(
     ask: Ask,
     chain: &mut [u64],
 ) -> Result<Routed, Refusal> {
-    route_booked(
-        contacts,
-        contact_count,
-        ranges,
-        range_count,
-        &EMPTY_BOOK,
-        &EMPTY_BOOKED,
-        ask,
-        Class::LOWEST.0,
-        chain,
-    )
+    has_places(chain)?;
+    let plan = Plan::of_tables(contacts, contact_count, ranges, range_count)?;
+    let found = find(&plan, &Book::default(), ask, Class::LOWEST.0)?;
+    Ok(fill(chain, &found.best))
 }
 
 /// The figures of a given chain for an ask of a class, on a lent book.
@@ -79,10 +63,7 @@ pub fn walk_booked(
 ) -> Result<Figures, Refusal> {
     let plan = Plan::of_tables(contacts, contact_count, ranges, range_count)?;
     let book = Book::of_lent(book, booked, &plan)?;
-    let (ask, class) = ask.check_in(class)?;
-    let links = Links::booked(&plan, &book, class);
-    let numbers = chain.iter().map(|&number| ContactNo(number));
-    figures(&links, &ask, numbers)
+    walked(&plan, &book, ask, class, chain)
 }
 
 /// Finds the best chain for an ask of a class, on a lent book, and fills it
@@ -151,11 +132,26 @@ pub fn release(
     Ok(())
 }
 
-fn has_places(chain: &[u64]) -> Result<(), Refusal> {
+/// Refusal 15 where a lent chain has too few places.
+pub(crate) fn has_places(chain: &[u64]) -> Result<(), Refusal> {
     if chain.len() < LONGEST_BEST {
         return Err(Refusal::bare(SHORT_CHAIN));
     }
     Ok(())
+}
+
+/// The figures of a chain on a plan with its book.
+fn walked(
+    plan: &Plan,
+    book: &Book,
+    ask: Ask,
+    class: u64,
+    chain: &[u64],
+) -> Result<Figures, Refusal> {
+    let (ask, class) = ask.check_in(class)?;
+    let links = Links::booked(plan, book, class);
+    let numbers = chain.iter().map(|&number| ContactNo(number));
+    figures(&links, &ask, numbers)
 }
 
 /// The best chain of an ask, and what a booking of it would take.
@@ -177,7 +173,7 @@ fn find(plan: &Plan, book: &Book, ask: Ask, class: u64) -> Result<Found, Refusal
 }
 
 /// Fills the best chain into the first of the lent places.
-fn fill(chain: &mut [u64], best: &Best) -> Routed {
+pub(crate) fn fill(chain: &mut [u64], best: &Best) -> Routed {
     for (place, number) in chain.iter_mut().zip(&best.chain) {
         *place = number.0;
     }

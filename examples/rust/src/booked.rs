@@ -1,7 +1,7 @@
 //! The functions over a plan with its book: [`walk_booked`], [`route_booked`],
 //! [`book_route`] and [`release`].
 
-use crate::{answered, figures, raw, Ask, Figures, Plan, Refusal, CHAIN};
+use crate::{answered, figures, lent, Ask, Figures, Plan, Refusal, CHAIN};
 
 /// The places of a book.
 pub const PLACES: usize = 256;
@@ -35,32 +35,9 @@ pub fn walk_booked(
     class: u64,
     chain: &[u64],
 ) -> Result<Figures, Refusal> {
-    // SAFETY: each pointer goes with the length of its slice.
-    let answer = answered(|answer| unsafe {
-        raw::oivarnum_walk_booked(
-            plan.contacts.as_ptr(),
-            plan.contacts.len(),
-            plan.contact_count,
-            plan.ranges.as_ptr(),
-            plan.ranges.len(),
-            plan.range_count,
-            book.book.as_ptr(),
-            book.book.len(),
-            book.booked.as_ptr(),
-            book.booked.len(),
-            ask.source,
-            ask.destination,
-            ask.time,
-            ask.size,
-            ask.deadline,
-            ask.excluded,
-            class,
-            chain.as_ptr(),
-            chain.len(),
-            answer.as_mut_ptr(),
-            answer.len(),
-        )
-    })?;
+    let Book { book, booked } = book;
+    let answer =
+        answered(|answer| lent::walk_booked(plan, book, booked, ask, class, chain, answer))?;
     Ok(figures(&answer))
 }
 
@@ -73,32 +50,9 @@ pub fn route_booked(
     class: u64,
     chain: &mut [u64],
 ) -> Result<(Figures, usize), Refusal> {
-    // SAFETY: each pointer goes with the length of its slice.
-    let answer = answered(|answer| unsafe {
-        raw::oivarnum_route_booked(
-            plan.contacts.as_ptr(),
-            plan.contacts.len(),
-            plan.contact_count,
-            plan.ranges.as_ptr(),
-            plan.ranges.len(),
-            plan.range_count,
-            book.book.as_ptr(),
-            book.book.len(),
-            book.booked.as_ptr(),
-            book.booked.len(),
-            ask.source,
-            ask.destination,
-            ask.time,
-            ask.size,
-            ask.deadline,
-            ask.excluded,
-            class,
-            chain.as_mut_ptr(),
-            chain.len(),
-            answer.as_mut_ptr(),
-            answer.len(),
-        )
-    })?;
+    let Book { book, booked } = book;
+    let answer =
+        answered(|answer| lent::route_booked(plan, book, booked, ask, class, chain, answer))?;
     Ok((figures(&answer), answer[6] as usize))
 }
 
@@ -111,32 +65,9 @@ pub fn book_route(
     class: u64,
     chain: &mut [u64],
 ) -> Result<Booked, Refusal> {
-    // SAFETY: each pointer goes with the length of its slice.
-    let answer = answered(|answer| unsafe {
-        raw::oivarnum_book_route(
-            plan.contacts.as_ptr(),
-            plan.contacts.len(),
-            plan.contact_count,
-            plan.ranges.as_ptr(),
-            plan.ranges.len(),
-            plan.range_count,
-            book.book.as_mut_ptr(),
-            book.book.len(),
-            book.booked.as_mut_ptr(),
-            book.booked.len(),
-            ask.source,
-            ask.destination,
-            ask.time,
-            ask.size,
-            ask.deadline,
-            ask.excluded,
-            class,
-            chain.as_mut_ptr(),
-            chain.len(),
-            answer.as_mut_ptr(),
-            answer.len(),
-        )
-    })?;
+    let Book { book, booked } = book;
+    let answer =
+        answered(|answer| lent::book_route(plan, book, booked, ask, class, chain, answer))?;
     Ok(Booked {
         figures: figures(&answer),
         count: answer[6] as usize,
@@ -146,23 +77,7 @@ pub fn book_route(
 
 /// Frees the place of a booking, and what it took.
 pub fn release(plan: Plan, book: &mut Book, place: u64) -> Result<(), Refusal> {
-    // SAFETY: each pointer goes with the length of its slice.
-    answered(|answer| unsafe {
-        raw::oivarnum_release(
-            plan.contacts.as_ptr(),
-            plan.contacts.len(),
-            plan.contact_count,
-            plan.ranges.as_ptr(),
-            plan.ranges.len(),
-            plan.range_count,
-            book.book.as_mut_ptr(),
-            book.book.len(),
-            book.booked.as_ptr(),
-            book.booked.len(),
-            place,
-            answer.as_mut_ptr(),
-            answer.len(),
-        )
-    })?;
+    let Book { book, booked } = book;
+    answered(|answer| lent::release(plan, book, booked, place, answer))?;
     Ok(())
 }

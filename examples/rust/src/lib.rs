@@ -1,12 +1,14 @@
 //! The proved contact-plan router for Rust: [`read`], [`write`], [`walk`] and
 //! [`route`] as safe functions over lent slices, and with a book of bookings
-//! [`walk_booked`], [`route_booked`], [`book_route`] and [`release`].
+//! [`walk_booked`], [`route_booked`], [`book_route`] and [`release`]. They stand
+//! on [`lent`], which gives back number and answer as the archive does.
 //!
 //! A table is flat words, five a row: start, end, from, to and rate of a
 //! contact; start, end, a, b and light time of a range. [`ROWS`] rows and
 //! [`CHAIN`] places are always enough, and [`TEXT`] bytes hold any plan's text.
 
 mod booked;
+pub mod lent;
 pub mod raw;
 
 pub use booked::{book_route, release, route_booked, walk_booked};
@@ -50,6 +52,20 @@ pub struct Ask {
     pub excluded: u64,
 }
 
+/// The ask of six numbers in the order of its fields.
+impl From<[u64; 6]> for Ask {
+    fn from([source, destination, time, size, deadline, excluded]: [u64; 6]) -> Self {
+        Self {
+            source,
+            destination,
+            time,
+            size,
+            deadline,
+            excluded,
+        }
+    }
+}
+
 /// What is said of an allowed chain in time.
 #[derive(Clone, Copy, Debug, PartialEq, Eq)]
 pub struct Figures {
@@ -89,91 +105,25 @@ pub fn read(
     contacts: &mut [u64],
     ranges: &mut [u64],
 ) -> Result<(usize, usize), Refusal> {
-    // SAFETY: each pointer goes with the length of its slice.
-    let answer = answered(|answer| unsafe {
-        raw::oivarnum_read(
-            text.as_ptr(),
-            text.len(),
-            contacts.as_mut_ptr(),
-            contacts.len(),
-            ranges.as_mut_ptr(),
-            ranges.len(),
-            answer.as_mut_ptr(),
-            answer.len(),
-        )
-    })?;
+    let answer = answered(|answer| lent::read(text, contacts, ranges, answer))?;
     Ok((answer[2] as usize, answer[3] as usize))
 }
 
 /// Writes a plan's text into lent bytes; its length.
 pub fn write(plan: Plan, out: &mut [u8]) -> Result<usize, Refusal> {
-    // SAFETY: each pointer goes with the length of its slice.
-    let answer = answered(|answer| unsafe {
-        raw::oivarnum_write(
-            plan.contacts.as_ptr(),
-            plan.contacts.len(),
-            plan.contact_count,
-            plan.ranges.as_ptr(),
-            plan.ranges.len(),
-            plan.range_count,
-            out.as_mut_ptr(),
-            out.len(),
-            answer.as_mut_ptr(),
-            answer.len(),
-        )
-    })?;
+    let answer = answered(|answer| lent::write(plan, out, answer))?;
     Ok(answer[2] as usize)
 }
 
 /// The figures of a given chain of contact numbers.
 pub fn walk(plan: Plan, ask: Ask, chain: &[u64]) -> Result<Figures, Refusal> {
-    // SAFETY: each pointer goes with the length of its slice.
-    let answer = answered(|answer| unsafe {
-        raw::oivarnum_walk(
-            plan.contacts.as_ptr(),
-            plan.contacts.len(),
-            plan.contact_count,
-            plan.ranges.as_ptr(),
-            plan.ranges.len(),
-            plan.range_count,
-            ask.source,
-            ask.destination,
-            ask.time,
-            ask.size,
-            ask.deadline,
-            ask.excluded,
-            chain.as_ptr(),
-            chain.len(),
-            answer.as_mut_ptr(),
-            answer.len(),
-        )
-    })?;
+    let answer = answered(|answer| lent::walk(plan, ask, chain, answer))?;
     Ok(figures(&answer))
 }
 
 /// The best chain for an ask, in the first places of the lent chain; its
 /// figures and how many contacts it has.
 pub fn route(plan: Plan, ask: Ask, chain: &mut [u64]) -> Result<(Figures, usize), Refusal> {
-    // SAFETY: each pointer goes with the length of its slice.
-    let answer = answered(|answer| unsafe {
-        raw::oivarnum_route(
-            plan.contacts.as_ptr(),
-            plan.contacts.len(),
-            plan.contact_count,
-            plan.ranges.as_ptr(),
-            plan.ranges.len(),
-            plan.range_count,
-            ask.source,
-            ask.destination,
-            ask.time,
-            ask.size,
-            ask.deadline,
-            ask.excluded,
-            chain.as_mut_ptr(),
-            chain.len(),
-            answer.as_mut_ptr(),
-            answer.len(),
-        )
-    })?;
+    let answer = answered(|answer| lent::route(plan, ask, chain, answer))?;
     Ok((figures(&answer), answer[6] as usize))
 }

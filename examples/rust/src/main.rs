@@ -40,20 +40,8 @@ fn main() -> ExitCode {
 fn asked(words: &[String]) -> Option<(&String, Ask)> {
     let (file, numbers) = words.split_first()?;
     let numbers: Result<Vec<u64>, _> = numbers.iter().map(|word| word.parse()).collect();
-    match numbers.ok()?[..] {
-        [source, destination, time, size, deadline, excluded] => Some((
-            file,
-            Ask {
-                source,
-                destination,
-                time,
-                size,
-                deadline,
-                excluded,
-            },
-        )),
-        _ => None,
-    }
+    let numbers: [u64; 6] = numbers.ok()?.try_into().ok()?;
+    Some((file, numbers.into()))
 }
 
 /// The four calls, one after the other, and what each says.

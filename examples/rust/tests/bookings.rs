@@ -6,11 +6,9 @@
 
 mod common;
 
-use common::{ask, TEXT_A_TO_G};
-use oivarnum::{
-    book_route, read, release, route, route_booked, walk_booked, Book, Booked, Figures, Plan,
-    Refusal, BOOKED_NUMBERS, BOOK_WORDS, CHAIN, ROWS, WORDS,
-};
+use common::on_plan;
+use oivarnum::{book_route, release, route, route_booked, walk_booked, Book, Booked};
+use oivarnum::{Figures, Plan, Refusal, BOOKED_NUMBERS, BOOK_WORDS, CHAIN};
 
 const CASE_A: [u64; 6] = [1, 3, 0, 1000, 30000, 0];
 
@@ -26,26 +24,17 @@ fn by_1_and_2(room: u64) -> Figures {
 
 /// Runs a test on the plan and an empty book.
 fn on_empty_book(test: impl FnOnce(Plan, &mut Book)) {
-    let (mut contacts, mut ranges) = ([0; ROWS * WORDS], [0; ROWS * WORDS]);
-    let counts = read(TEXT_A_TO_G, &mut contacts, &mut ranges);
-    assert_eq!(counts, Ok((6, 4)));
-    let plan = Plan {
-        contacts: &contacts,
-        contact_count: 6,
-        ranges: &ranges,
-        range_count: 4,
-    };
     let mut book = Book {
         book: &mut [0; BOOK_WORDS],
         booked: &mut [0; BOOKED_NUMBERS],
     };
-    test(plan, &mut book);
+    on_plan(|plan| test(plan, &mut book));
 }
 
 /// Books case A's file in a class: the answer, and the chain.
 fn book_case_a(plan: Plan, book: &mut Book, class: u64) -> (Booked, Vec<u64>) {
     let mut chain = [0; CHAIN];
-    let booked = book_route(plan, book, ask(CASE_A), class, &mut chain).expect("a way is left");
+    let booked = book_route(plan, book, CASE_A.into(), class, &mut chain).expect("a way is left");
     (booked, chain[..booked.count].to_vec())
 }
 
@@ -53,8 +42,8 @@ fn book_case_a(plan: Plan, book: &mut Book, class: u64) -> (Booked, Vec<u64>) {
 fn an_empty_book_changes_nothing() {
     on_empty_book(|plan, book| {
         let (mut chain, mut chain_booked) = ([0; CHAIN], [0; CHAIN]);
-        let routed = route(plan, ask(CASE_A), &mut chain);
-        let routed_booked = route_booked(plan, book, ask(CASE_A), 1, &mut chain_booked);
+        let routed = route(plan, CASE_A.into(), &mut chain);
+        let routed_booked = route_booked(plan, book, CASE_A.into(), 1, &mut chain_booked);
         assert_eq!((routed_booked, chain_booked), (routed, chain));
     });
 }
@@ -70,7 +59,7 @@ fn bookings_take_volume_and_releases_give_it_back() {
         let (booked, chain) = book_case_a(plan, book, 1);
         assert_eq!((booked.figures.delivery, booked.place), (13050, 3));
         assert_eq!(chain, [1, 4]);
-        let walked = |book: &Book, class| walk_booked(plan, book, ask(CASE_A), class, &[1, 2]);
+        let walked = |book: &Book, class| walk_booked(plan, book, CASE_A.into(), class, &[1, 2]);
         assert!(walked(book, 1).is_err());
         assert_eq!(walked(book, 2), Ok(by_1_and_2(2427)));
 
@@ -92,7 +81,7 @@ fn what_is_not_open_is_not_released() {
         }
         assert_eq!(release(plan, book, booked.place), Ok(()));
         assert_eq!(release(plan, book, booked.place), Err(refused(26)));
-        let routed = route_booked(plan, book, ask(CASE_A), 4, &mut [0; CHAIN]);
+        let routed = route_booked(plan, book, CASE_A.into(), 4, &mut [0; CHAIN]);
         assert_eq!(routed, Err(refused(24)));
     });
 }

@@ -2,7 +2,7 @@
 
 mod common;
 
-use common::{ask, TEXT_A_TO_G};
+use common::{on_plan, TEXT_A_TO_G};
 use oivarnum::{read, route, walk, write, Figures, Plan, Refusal, CHAIN, ROWS, TEXT, WORDS};
 
 /// An ask's six numbers, and the figures and the chain, or the refusal.
@@ -30,40 +30,38 @@ const CASES: [Case; 7] = [
     ([1, 1, 0, 1000, 30000, 0], Err(12)),
 ];
 
+/// What `route` finds for a case, and what `walk` says of the chain.
+fn check(plan: Plan, (numbers, wanted): Case) {
+    let ask = numbers.into();
+    let mut chain = [0; CHAIN];
+    let routed = route(plan, ask, &mut chain);
+    match wanted {
+        Ok(([delivery, opens, last_call, room], wanted_chain)) => {
+            let figures = Figures {
+                delivery,
+                opens,
+                last_call,
+                room,
+            };
+            assert_eq!(routed, Ok((figures, wanted_chain.len())));
+            assert_eq!(chain[..wanted_chain.len()], *wanted_chain);
+            assert_eq!(walk(plan, ask, wanted_chain), Ok(figures));
+        }
+        Err(number) => assert_eq!(routed, Err(Refusal { number, place: 0 })),
+    }
+}
+
 #[test]
 fn the_cases_of_the_request() {
-    let (mut contacts, mut ranges) = ([0; ROWS * WORDS], [0; ROWS * WORDS]);
-    let counts = read(TEXT_A_TO_G, &mut contacts, &mut ranges);
-    assert_eq!(counts, Ok((6, 4)));
-    let plan = Plan {
-        contacts: &contacts,
-        contact_count: 6,
-        ranges: &ranges,
-        range_count: 4,
-    };
-    for (numbers, wanted) in CASES {
-        let ask = ask(numbers);
-        let mut chain = [0; CHAIN];
-        let routed = route(plan, ask, &mut chain);
-        match wanted {
-            Ok(([delivery, opens, last_call, room], wanted_chain)) => {
-                let figures = Figures {
-                    delivery,
-                    opens,
-                    last_call,
-                    room,
-                };
-                assert_eq!(routed, Ok((figures, wanted_chain.len())));
-                assert_eq!(chain[..wanted_chain.len()], *wanted_chain);
-                assert_eq!(walk(plan, ask, wanted_chain), Ok(figures));
-            }
-            Err(number) => assert_eq!(routed, Err(Refusal { number, place: 0 })),
+    on_plan(|plan| {
+        for case in CASES {
+            check(plan, case);
         }
-    }
-    let mut out = [0; TEXT];
-    let length = write(plan, &mut out);
-    assert_eq!(length, Ok(TEXT_A_TO_G.len()));
-    assert_eq!(out[..TEXT_A_TO_G.len()], *TEXT_A_TO_G);
+        let mut out = [0; TEXT];
+        let length = write(plan, &mut out);
+        assert_eq!(length, Ok(TEXT_A_TO_G.len()));
+        assert_eq!(out[..TEXT_A_TO_G.len()], *TEXT_A_TO_G);
+    });
 }
 
 #[test]

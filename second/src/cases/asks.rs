@@ -16,15 +16,7 @@ pub fn line(ask: &Ask) -> Vec<u8> {
 }
 
 fn pieces(ask: &Ask) -> Pieces {
-    let numbers = [
-        ask.source,
-        ask.destination,
-        ask.time,
-        ask.size,
-        ask.deadline,
-        ask.excluded,
-    ];
-    Pieces::new("ask", &numbers)
+    Pieces::new("ask", &ask.numbers())
 }
 
 /// A good ask, most of them to a node that contacts lead to.

@@ -14,13 +14,13 @@ mod tests;
 
 use crate::ask::Ask;
 use crate::book::Book;
-use crate::calls::Routed;
+use crate::calls::{fill, has_places, Routed};
 use crate::plain::book_is_valid;
 use crate::plan::{Plan, Row};
-use crate::refusal::{Refusal, NO_VALID_PLAN, SHORT_CHAIN};
+use crate::refusal::{Refusal, NO_VALID_PLAN};
 use crate::route::Network;
-use crate::router::{Best, Router};
-use crate::units::{Class, LONGEST_BEST};
+use crate::router::Router;
+use crate::units::Class;
 
 use check::Lights;
 use search::Search;
@@ -88,22 +88,4 @@ fn checked(
     let left = check::left(contacts, &lent, class);
     let best = Search::new(contacts, &lights, &left, ask).best()?;
     Ok(fill(chain, &best))
-}
-
-fn has_places(chain: &[u64]) -> Result<(), Refusal> {
-    if chain.len() < LONGEST_BEST {
-        return Err(Refusal::bare(SHORT_CHAIN));
-    }
-    Ok(())
-}
-
-/// Fills the best chain into the first of the lent places.
-fn fill(chain: &mut [u64], best: &Best) -> Routed {
-    for (place, number) in chain.iter_mut().zip(&best.chain) {
-        *place = number.0;
-    }
-    Routed {
-        figures: best.figures,
-        count: best.chain.len() as u64,
-    }
 }

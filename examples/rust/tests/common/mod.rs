@@ -1,6 +1,6 @@
-//! The plan of cases A to G, and an ask from its six numbers.
+//! The plan of cases A to G.
 
-use oivarnum::Ask;
+use oivarnum::{read, Plan, ROWS, WORDS};
 
 pub const TEXT_A_TO_G: &[u8] = b"plan\t1
 contact\t0\t10000\t1\t2\t1000
@@ -15,13 +15,15 @@ range\t0\t30000\t1\t3\t1300
 range\t0\t30000\t1\t4\t5
 ";
 
-pub fn ask([source, destination, time, size, deadline, excluded]: [u64; 6]) -> Ask {
-    Ask {
-        source,
-        destination,
-        time,
-        size,
-        deadline,
-        excluded,
-    }
+/// Runs a test on the plan, read from its text.
+pub fn on_plan(test: impl FnOnce(Plan)) {
+    let (mut contacts, mut ranges) = ([0; ROWS * WORDS], [0; ROWS * WORDS]);
+    let counts = read(TEXT_A_TO_G, &mut contacts, &mut ranges);
+    assert_eq!(counts, Ok((6, 4)));
+    test(Plan {
+        contacts: &contacts,
+        contact_count: 6,
+        ranges: &ranges,
+        range_count: 4,
+    });
 }
