@@ -111,6 +111,12 @@ pub fn plans() -> Vec<Input> {
             plans::two_nodes(),
             two_nodes_asks(),
         ),
+        Input::new(
+            "gaps",
+            "the same, seven contacts of eight not ranged",
+            plans::gaps(),
+            two_nodes_asks(),
+        ),
     ];
     inputs.extend(booked());
     inputs

@@ -230,3 +230,18 @@ pub fn two_nodes() -> Rows {
     }
     rows
 }
+
+/// How many of [`two_nodes`]'s ranges [`gaps`] keeps whole: one of so many.
+const WHOLE: u64 = 16;
+
+/// The plan of [`two_nodes`] with all ranges but some cut short, so that seven
+/// contacts of eight have a gap in their ranges.
+pub fn gaps() -> Rows {
+    let mut rows = two_nodes();
+    for (turn, range) in (0..).zip(&mut rows.ranges) {
+        if turn % WHOLE != 0 {
+            range[1] = turn * TURN + 54_999;
+        }
+    }
+    rows
+}

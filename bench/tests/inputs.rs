@@ -3,8 +3,9 @@
 use std::collections::BTreeSet;
 
 use bench::inputs::{full_book, growth, named, plans, Input, SIZES};
-use bench::plans::{first, full, layers, line, lunar, shuffled, two_nodes, Rows};
+use bench::plans::{first, full, gaps, layers, line, lunar, shuffled, two_nodes, Rows};
 use second::book::OPEN;
+use second::plain::light;
 use second::plan::Row;
 use second::units::{LONGEST_BEST, PLACE_WORDS, ROWS};
 
@@ -23,6 +24,7 @@ fn plans_have_the_sizes_that_they_are_to_have() {
     assert_eq!(counts(&line()), [63, 63, 64]);
     assert_eq!(counts(&layers()), [ROWS, ROWS, 64]);
     assert_eq!(counts(&two_nodes()), [ROWS, ROWS, 2]);
+    assert_eq!(counts(&gaps()), [ROWS, ROWS, 2]);
     for size in SIZES {
         assert_eq!(counts(&first(size))[..2], [size, size]);
     }
@@ -31,7 +33,8 @@ fn plans_have_the_sizes_that_they_are_to_have() {
 #[test]
 fn plans_are_in_time_order_but_for_the_shuffled_one() {
     let is_sorted = |rows: &[Row]| rows.is_sorted_by_key(|row| row[0]);
-    for rows in [full(), lunar(), line(), layers(), two_nodes(), first(64)] {
+    let sorted = [full(), lunar(), line(), layers(), two_nodes(), gaps()];
+    for rows in sorted.into_iter().chain([first(64)]) {
         assert!(is_sorted(&rows.contacts) && is_sorted(&rows.ranges));
     }
     let Rows {
@@ -42,6 +45,14 @@ fn plans_are_in_time_order_but_for_the_shuffled_one() {
     contacts.sort();
     ranges.sort();
     assert_eq!(Rows { contacts, ranges }, full());
+}
+
+#[test]
+fn one_contact_of_eight_is_ranged_where_there_are_gaps() {
+    let is_ranged = |rows: &Rows, contact: &Row| light(contact, &rows.ranges).is_some();
+    let ranged = |rows: &Rows| rows.contacts.iter().filter(|c| is_ranged(rows, c)).count();
+    assert_eq!(ranged(&two_nodes()), ROWS);
+    assert_eq!(ranged(&gaps()), ROWS / 8);
 }
 
 #[test]
