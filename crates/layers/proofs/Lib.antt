@@ -4,6 +4,7 @@ pub mod ArriveCode
 mod CopyCode
 pub mod FillCode
 mod LayerCode
+mod ListedCode
 pub mod NetworkLaws
 pub mod RowLaws
 mod TriedCode

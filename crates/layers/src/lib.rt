@@ -2,10 +2,11 @@
 // earliest, over at most so many contacts. All of it is internal and serves the search.
 mod filling;
 mod rows;
+mod trying;
 
-pub use filling::Ends;
-pub use filling::arrive;
-pub use filling::ends_of;
 pub use filling::fill;
 pub use rows::NEVER;
 pub use rows::get;
+pub use trying::Ends;
+pub use trying::arrive;
+pub use trying::ends_of;

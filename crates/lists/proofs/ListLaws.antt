@@ -13,11 +13,10 @@ use native.Mathlib.Decide.{decLe, ℕ-discrete}
 use native.Mathlib.Nat.{lt-of-not-le}
 use native.Mathlib.Omega.{arith}
 use lib.ListN.{getD}
-use Rattle.units.specs.Limits.{mostNodes}
 use Rattle.plan.specs.declared.rows.Span.{Span}
 use Rattle.plan.specs.Tables.{spanAt}
 use Rattle.lists.specs.Lists.{LeastFrom, Nexts, pairSlot, slotAt, Followed, InOrder}
-use Rattle.lists.specs.Model.{slots, IsPair}
+use Rattle.lists.specs.Model.{slots}
 
 pub pair-slot : (s t : Span) → s .one .0 ≡ t .one .0 → s .other .0 ≡ t .other .0 → pairSlot s ≡ pairSlot t
 unfolding pairSlot
@@ -27,9 +26,9 @@ pub slot-same : (table : List ℕ) (j k : ℕ) → spanAt table j .one .0 ≡ sp
 unfolding slotAt
 slot-same table j k = pair-slot (spanAt table j) (spanAt table k)
 
-pub slot-below : (s : Span) → IsPair s → pairSlot s < slots
-unfolding pairSlot mostNodes slots
-slot-below s p = omega (arith, p .one-node .most, p .other-node .most)
+pub slot-below : (s : Span) → pairSlot s < slots
+unfolding pairSlot slots
+slot-below s = omega arith
 
 -- the walk starts at row `from` or later, and has come to row j, where n is the end
 pub record Along (key : ℕ → ℕ) (P : ℕ → Type 0) (from n s j : ℕ) : Type 0 where

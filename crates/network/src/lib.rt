@@ -1,2 +1,3 @@
 // The theory of the best chain through a network of contacts. It is all definitions (specs/) and
-// theorems (proofs/): the code that works the best chain out stands in the crate `search`.
+// theorems (proofs/): the code that works the best chain out stands in the crates `layers` and
+// `choice`.

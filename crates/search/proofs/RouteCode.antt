@@ -1,15 +1,16 @@
 -- What the code of `route` knows, once the layers are filled.
 --     delivered-is      the word of the destination in the last row says the delivery
 --     route-none, route-late, route-best      the answer, by the tests in their order
---     count-is          the first row that has that word is the fewest contacts
+--     count-is          the first row that has that word is the fewest contacts; when-injective, two words that say the same are the same
 --     route-serves      the answer over the tables that `serve` filled
 --     chain-named, chain-some, chain-front      the chain chosen: its numbers name contacts, it has some, and it stands in front
 -- Assumes nothing.
 use mathlib.Core.List.{List, _++_}
 use mathlib.Core.Logic.{⊎-elim}
-use mathlib.Core.Path.{_≡_, refl, sym, ap, _∙_, subst}
-use Prim.Native.Nat.{ℕ, _+_, _-_, _*_, _≤_, _<_}
-use native.Mathlib.Nat.{le-refl, le-trans, mul-le-mul-right}
+use mathlib.Core.Path.{_≡_, sym, ap, _∙_, subst}
+use Prim.Native.Nat.{ℕ, _+_, _*_, _≤_, _<_}
+use native.Mathlib.Decide.{decLe}
+use native.Mathlib.Nat.{le-refl, mul-le-mul-right}
 use native.Mathlib.Omega.{arith}
 use borrow.Author.Tests.{lt-ltb, le-ltb}
 use lib.ListN.{length, getD, take, drop}
@@ -24,19 +25,39 @@ use Rattle.timing.specs.Chain.{Allowed}
 use Rattle.walk.specs.Model.{figuresOf}
 use Rattle.walk.specs.Walk.{GoodAsk}
 use Rattle.walk.proofs.LastCallCode.{carries-named}
-use Rattle.network.specs.Model.{layer, earliest, delivery, fewest, chosen}
+use Rattle.network.specs.Model.{earliest, delivery, fewest, chosen}
 use Rattle.network.specs.Network.{When, at, never, Network}
 use Rattle.network.proofs.Theorems.{chosen-best, fewest-is, fewest-length}
 use Rattle.layers.specs.Bridge.{networkOf}
 use Rattle.search.specs.declared.answer.Routed.{Routed}
 use Rattle.search.specs.declared.answer.Routed.the-variants.{Best, Refused}
 use Rattle.layers.specs.Bridge.{goal}
-use Rattle.search.specs.Model.{chainOf, answerOf, chainAfter, routeModel, routeAfter}
-use Rattle.layers.specs.Words.{neverWord, whenWord, TimeWord, rowOf, layerOf, Filled, FirstRow}
+use Rattle.choice.specs.Model.{chainOf}
+use Rattle.search.specs.Model.{answerOf, chainAfter, routeModel, routeAfter}
+use Rattle.layers.specs.Words.{neverWord, whenWord, TimeWord, rowOf, Filled, FirstRow}
 use Rattle.search.proofs.Chains.{allowed-reaches}
-use Rattle.search.proofs.ChoiceCode.{when-injective}
 use Rattle.layers.proofs.NetworkLaws.{network-laws, goal-node, goal-apart}
-use Rattle.layers.proofs.RowLaws.{when-never, when-time, time-most, time-row, getD-layer}
+use Rattle.layers.proofs.RowLaws.{when-never, when-below, when-time, time-most, time-row, getD-layer}
+
+when-injective : (a b : ℕ) → a ≤ neverWord → b ≤ neverWord → whenWord a ≡ whenWord b → a ≡ b
+when-injective a b ha hb e = go (decLe neverWord a) (decLe neverWord b)
+  where
+    go : Dec (neverWord ≤ a) → Dec (neverWord ≤ b) → a ≡ b
+    go (yes k) (yes l) = omega arith
+    go (yes k) (no l) =
+        let na : whenWord a ≡ never = when-never a (omega arith) in
+        let tb : whenWord b ≡ at b = when-below b (omega arith) in
+        let z : _≡_ {A = ℕ} 0 1 = cc in
+        absurd (omega arith)
+    go (no k) (yes l) =
+        let ta : whenWord a ≡ at a = when-below a (omega arith) in
+        let nb : whenWord b ≡ never = when-never b (omega arith) in
+        let z : _≡_ {A = ℕ} 0 1 = cc in
+        absurd (omega arith)
+    go (no k) (no l) =
+        let ta : whenWord a ≡ at a = when-below a (omega arith) in
+        let tb : whenWord b ≡ at b = when-below b (omega arith) in
+        cc
 
 -- a row up to the last lies inside the words
 pub row-inside : (N : Network) (words : List ℕ) (last k : ℕ) → Filled N words last → k ≤ last → (k + 1) * mostNodes ≤ length words

@@ -41,7 +41,8 @@ use Rattle.network.specs.Network.{When, at, never}
 use Rattle.network.proofs.Theorems.{chosen-best, never-unreached}
 use Rattle.layers.specs.Bridge.{networkOf}
 use Rattle.layers.specs.Bridge.{goal}
-use Rattle.search.specs.Model.{chainOf, pickRouted, pickList, answerOf, chainAfter, routeModel, routeAfter}
+use Rattle.choice.specs.Model.{chainOf}
+use Rattle.search.specs.Model.{pickRouted, pickList, answerOf, chainAfter, routeModel, routeAfter}
 use Rattle.search.specs.Route.{IsBest, RoutesPlan, no-chain, too-late, best, Routes, short-chain, no-plan, bad-ask, same-node, routed}
 use Rattle.search.specs.declared.answer.Routed.{Routed}
 use Rattle.search.specs.declared.answer.Routed.the-variants.{Best, Refused}

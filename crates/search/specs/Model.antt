@@ -10,14 +10,11 @@ use Rattle.units.specs.declared.Refusal.the-variants.{NoChain, TooLate}
 use Rattle.service.specs.Service.{Service}
 use Rattle.walk.specs.Model.{figuresOf}
 use Rattle.network.specs.Network.{When, at, never}
-use Rattle.network.specs.Model.{delivery, chosen}
+use Rattle.network.specs.Model.{delivery}
 use Rattle.layers.specs.Bridge.{networkOf, goal}
+use Rattle.choice.specs.Model.{chainOf}
 use Rattle.search.specs.declared.answer.Routed.{Routed}
 use Rattle.search.specs.declared.answer.Routed.the-variants.{Best, Refused}
-
--- the chain chosen for a delivery at r
-unfoldable pub chainOf : Service → Ask → ℕ → List ℕ
-chainOf p ask r = chosen (networkOf p ask) (goal ask) r
 
 abbrev pub pickRouted : Bool → Routed → Routed → Routed
 pickRouted true a b = a

@@ -1,6 +1,6 @@
-// The best chain for an ask, chosen from the layers of the plan seen as a network. Public: `route`.
+// The answer for an ask: the best chain with its figures, or why there is none. Public: `route`. The
+// layers are filled in the crate `layers`, and the chain is worked back in `choice`.
 mod answer;
-mod choice;
 mod routing;
 
 pub use answer::Routed;

@@ -1,7 +1,7 @@
 // The public call `route`: the best chain for an ask.
 use crate::answer::Routed;
-use crate::choice::choose;
-use crate::choice::first_row;
+use choice::choose;
+use choice::first_row;
 use layers::NEVER;
 use layers::fill;
 use layers::get;

@@ -30,7 +30,8 @@ use Rattle.plan.proofs.Lent.{ranges-counted}
 use Rattle.plan.proofs.RowList.{length-rows, getD-rows}
 use Rattle.lists.specs.Lists.{Linked, slotAt}
 use Rattle.lists.specs.Model.{slots, mostRows, Linkable}
-use Rattle.service.specs.Model.{RangesListed, Kept, NoneKept}
+use Rattle.ranging.specs.Model.{RangesListed, Kept}
+use Rattle.service.specs.Model.{NoneKept}
 use Rattle.service.specs.Service.{blank, volume, leftsFrom, serviceOf, unused, LightGood}
 use Rattle.service.specs.Tables.{unranged, lightWord, lightAt, leftAt, served}
 use Rattle.service.proofs.TablesCode.{word-unranged, word-ranged}

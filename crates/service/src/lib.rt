@@ -1,5 +1,5 @@
-// The plan as it serves an ask: beside each contact its light time and the bytes that are left on it.
-mod lights;
+// The plan as it serves an ask: beside each contact its light time, which `ranging` finds, and the bytes
+// that are left on it.
 mod serving;
 mod tables;
 

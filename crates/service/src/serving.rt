@@ -1,5 +1,4 @@
 // A plan made ready to serve: each contact's light time and its volume, worked out once.
-use crate::lights::light_kept;
 use crate::tables::UNRANGED;
 use lists::BLANK;
 use lists::MOST_ROWS;
@@ -8,6 +7,7 @@ use lists::link;
 use plan::Contact;
 use plan::Light;
 use plan::contact_row;
+use ranging::light_kept;
 ghost use mathlib.Core.Bool.{true};
 ghost use mathlib.Core.Path.{_≡_};
 ghost use Prim.Native.Nat.{_≤_};
@@ -16,7 +16,8 @@ ghost use Rattle.plan.specs.Plan.{GoodContact};
 ghost use Rattle.plan.specs.Tables.{IsPlan, planOf};
 ghost use Rattle.lists.specs.Lists.{InOrder};
 ghost use Rattle.lists.specs.Model.{slots, mostRows};
-ghost use Rattle.service.specs.Model.{RangesListed, Kept, NoneKept};
+ghost use Rattle.ranging.specs.Model.{RangesListed, Kept};
+ghost use Rattle.service.specs.Model.{NoneKept};
 ghost use Rattle.service.specs.Service.{volume, serviceOf, unused, LightGood};
 ghost use Rattle.service.specs.Tables.{lightWord, served};
 

@@ -11,7 +11,6 @@ use units::Millis;
 use units::NodeNo;
 ghost use mathlib.Core.Path.{_≡_};
 ghost use Prim.Native.Nat.{_+_, _≤_};
-ghost use lib.ListN.{length};
 ghost use Rattle.units.specs.Limits.{IsNode, mostSize, lastTime, mostLight};
 ghost use Rattle.plan.specs.Plan.{GoodContact};
 ghost use Rattle.service.specs.Service.{InPlan};

@@ -1,7 +1,5 @@
--- The laws of a walk: Theorems says that the model's answer is the one promised, and that one answer at the most is; CauseLaws says it of why a
--- chain is turned down. The files named Code are what the proofs of the functions know.
-mod CauseCode
-pub mod CauseLaws
+-- The laws of a walk: Theorems says that the model's answer is the one promised, and that one answer at the most is; the
+-- laws of why a chain is turned down stand in the crate `causes`. The files named Code are what the proofs of the functions know.
 pub mod LastCallCode
 pub mod LastCallLaws
 mod RoomCode

@@ -30,7 +30,7 @@ use Rattle.timing.specs.Model.{deliveryOf}
 use Rattle.walk.specs.Model.{figuresOf, pickWalked, walkedOf, walkModel}
 use Rattle.walk.specs.Walk.{GoodAsk, WalksPlan, turned-down, too-late, carried, Walks, no-plan, bad-ask, same-node, walked}
 use Rattle.timing.proofs.ChainLaws.{carries-after, allowed-delivery, allowed-determined}
-use Rattle.walk.proofs.CauseLaws.{cause-tells, turned-determined, allowed-no-cause}
+use Rattle.causes.proofs.CauseLaws.{cause-tells, turned-determined, allowed-no-cause}
 use Rattle.walk.proofs.LastCallLaws.{last-call-is}
 use Rattle.walk.proofs.RoomLaws.{room-is}
 

@@ -27,8 +27,9 @@ use Rattle.walk.specs.declared.figures.Walked.the-variants.{Carried, Ref
 use Rattle.service.specs.Service.{Service, contactOf, InPlan}
 use Rattle.service.specs.Tables.{served}
 use Rattle.timing.specs.Hop.{startOn}
-use Rattle.walk.specs.Model.{goodAsk, limitBefore, roomOf, figuresOf, causeOf, walkModel}
+use Rattle.walk.specs.Model.{goodAsk, limitBefore, roomOf, figuresOf, walkModel}
 use Rattle.timing.specs.Model.{deliveryOf}
+use Rattle.causes.specs.Model.{causeOf}
 use Rattle.walk.specs.Walk.{GoodAsk}
 use Rattle.timing.proofs.ChainCode.{contact-lent}
 

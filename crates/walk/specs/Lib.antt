@@ -1,4 +1,3 @@
-pub mod Cause
 pub mod Figures
 pub mod Model
 pub mod Walk

@@ -2,30 +2,24 @@
 --     goodAsk       the test of an ask's values
 --     limitBefore   last call as a limit: ready below it, the file is ready behind the chain below the limit given
 --     roomFrom      the greatest size carried, found bit by bit
---     judged        a contact of a chain, judged as it is reached
---     causeOf       why a chain is turned down
 --     walkModel     the answer
 -- Assumes nothing.
-use mathlib.Core.Bool.{Bool, true, false, not, _&&_, cond}
+use mathlib.Core.Bool.{Bool, true, false, _&&_, cond}
 use mathlib.Core.List.{List, [], _∷_}
 use Prim.Native.Nat.{ℕ, zero, suc, _+_, _-_, _^_}
-use lib.Dec.{leb, ltb, eqb}
-use lib.ListN.{length, getD}
+use lib.Dec.{leb, ltb}
+use lib.ListN.{getD}
 use Rattle.units.specs.Limits.{lastTime, mostSize}
 use Rattle.units.specs.Model.{isNode}
 use Rattle.units.specs.declared.Ask.{Ask}
-use Rattle.units.specs.declared.Refusal.{Refusal}
-use Rattle.units.specs.declared.Refusal.the-variants.{TooLate, NoContact, NotJoined, ExcludedNode, NotRanged, NotFitting, EndsElsewhere}
-use Rattle.plan.specs.declared.light.Light.{Light}
-use Rattle.plan.specs.declared.light.Light.the-variants.{Of, Unranged}
+use Rattle.units.specs.declared.Refusal.the-variants.{TooLate}
 use Rattle.service.specs.Service.{Service, contactOf, lightIn, leftIn}
 use Rattle.timing.specs.declared.arrival.Arrival.{Arrival}
 use Rattle.timing.specs.declared.arrival.Arrival.the-variants.{Ready, Never}
 use Rattle.timing.specs.Chain.{askOf}
-use Rattle.timing.specs.Hop.{startOn, isBarred}
-use Rattle.timing.specs.Model.{backOver, overContact, deliveryOf}
-use Rattle.walk.specs.declared.cause.Judged.{Judged}
-use Rattle.walk.specs.declared.cause.Judged.the-variants.{Good, Fault}
+use Rattle.timing.specs.Hop.{startOn}
+use Rattle.timing.specs.Model.{backOver, deliveryOf}
+use Rattle.causes.specs.Model.{causeOf}
 use Rattle.walk.specs.declared.figures.Figures.{Figures}
 use Rattle.walk.specs.declared.figures.Walked.{Walked}
 use Rattle.walk.specs.declared.figures.Walked.the-variants.{Carried, Refused}
@@ -81,45 +75,6 @@ figuresOf p ask chain r = record {
   «last_call» = record { 0 = limitBefore p ask chain (ask .deadline .0) - 1 };
   room = roomOf p ask chain;
 }
-
--- a fault where the test is not passed, and else what the later tests say
-abbrev pub unless : Bool → Refusal → Judged → Judged
-unless true why later = later
-unless false why later = Fault why
-
--- by a light time, and by when the file is ready behind the contact
-abbrev pub byHop : ℕ → Light → Arrival → Judged
-byHop i Unranged a = Fault (NotRanged i)
-byHop i (Of l) (Ready s) = Good s
-byHop i (Of l) Never = Fault (NotFitting i)
-
--- contact c, reached at time t, the i-th of the chain: ranged and fitting
-unfoldable pub judgedHop : Service → Ask → ℕ → ℕ → ℕ → Judged
-judgedHop p ask t i c = byHop i (lightIn p c) (overContact p ask c t)
-
--- reached at node u: from there, and not to an excluded neighbour
-unfoldable pub judgedNamed : Service → Ask → ℕ → ℕ → ℕ → ℕ → Judged
-judgedNamed p ask u t i c =
-    unless (eqb (contactOf p c .from .0) u) (NotJoined i)
-    (unless (not (isBarred ask (contactOf p c))) (ExcludedNode i)
-    (judgedHop p ask t i c))
-
--- any number
-unfoldable pub judged : Service → Ask → ℕ → ℕ → ℕ → ℕ → Judged
-judged p ask u t i c = unless (leb 1 c && leb c (length (p .contacts))) (NoContact i) (judgedNamed p ask u t i c)
-
--- a contact that is good is passed
-abbrev pub causeBy : Judged → (ℕ → Refusal) → Refusal
-causeBy (Good s) next = next (s .0)
-causeBy (Fault why) next = why
-
--- the file at node u at time t, i contacts passed
-unfoldable pub causeFrom : Service → Ask → ℕ → ℕ → ℕ → List ℕ → Refusal
-causeFrom p ask u t i [] = EndsElsewhere i
-causeFrom p ask u t i (c ∷ cs) = causeBy (judged p ask u t (i + 1) c) (λ s. causeFrom p ask (contactOf p c .to .0) s (i + 1) cs)
-
-unfoldable pub causeOf : Service → Ask → List ℕ → Refusal
-causeOf p ask chain = causeFrom p ask (ask .source .0) (ask .time .0) 0 chain
 
 abbrev pub pickWalked : Bool → Walked → Walked → Walked
 pickWalked true a b = a

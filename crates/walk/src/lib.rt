@@ -1,7 +1,6 @@
 // The figures of a chain: when the file is delivered, when it is first sent, from when on it is too
-// late, and how large it may be; or why the chain is turned down. Public: `walk`. The rest serves
-// `walk` and the search.
-mod cause;
+// late, and how large it may be; or why the chain is turned down, which the crate `causes` finds.
+// Public: `walk`. The rest serves `walk` and the search.
 mod figures;
 mod last_call;
 mod room;

@@ -5,7 +5,7 @@ use units::Ask;
 use units::MOST_SIZE;
 use units::Millis;
 ghost use mathlib.Core.Path.{_≡_};
-ghost use Prim.Native.Nat.{_+_, _^_, _≤_};
+ghost use Prim.Native.Nat.{_^_, _≤_};
 ghost use Rattle.units.specs.Limits.{mostSize, lastTime};
 ghost use Rattle.service.specs.Tables.{IsService, served};
 ghost use Rattle.walk.specs.Model.{isBefore, carriesSize, raised, sizeBits, roomOf};

@@ -1,9 +1,9 @@
 // The public call `walk`: a given chain is timed.
-use crate::cause::cause;
 use crate::figures::Figures;
 use crate::figures::Walked;
 use crate::last_call::limit_before;
 use crate::room::room;
+use causes::cause;
 use plan::contact_numbered;
 use service::BLANK_LEFT;
 use service::BLANK_LIGHT;
@@ -21,7 +21,7 @@ use units::Refusal;
 use units::is_node;
 use validity::is_plan;
 ghost use mathlib.Core.Path.{_≡_};
-ghost use Prim.Native.Nat.{_-_, _≤_, _<_};
+ghost use Prim.Native.Nat.{_-_, _≤_};
 ghost use lib.ListN.{length, getD};
 ghost use Rattle.units.specs.Limits.{mostContacts};
 ghost use Rattle.plan.specs.Plan.{Each};

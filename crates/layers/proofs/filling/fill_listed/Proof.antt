@@ -2,7 +2,7 @@
 -- Assumes nothing.
 use mathlib.Core.Path.{_∙_}
 use borrow.Author.Needs.{needs}
-use Rattle.layers.proofs.TriedCode.{linkable-from, listed-from}
+use Rattle.layers.proofs.ListedCode.{linkable-from, listed-from}
 use Rattle.layers.proofs.filling.fill_listed.Statement.{statement}
 use Rattle.layers.proofs.filling.fill_listed.Tie as tie
 

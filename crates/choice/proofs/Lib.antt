@@ -1,0 +1,3 @@
+-- What the proofs of the functions know: ChoiceCode of one contact and of the lowest that leads, ChooseCode of the chain worked back.
+mod ChoiceCode
+mod ChooseCode

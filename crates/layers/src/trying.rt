@@ -1,0 +1,261 @@
+// How contacts are tried in a layer: when the file is ready behind a contact and which nodes it is from and
+// to, then one contact tried, those from a node along their list, and those from every node. They are tried
+// out of row k of the lent words, which is layer k, into row k + 1.
+use crate::rows::NEVER;
+use crate::rows::NODES;
+use crate::rows::get;
+use crate::rows::put;
+use lists::first_from;
+use lists::next_of;
+use plan::contact_numbered;
+use timing::Arrival;
+use timing::step;
+use units::Ask;
+use units::ContactNo;
+use units::Millis;
+ghost use mathlib.Core.Bool.{true, false};
+ghost use mathlib.Core.Path.{_≡_};
+ghost use Prim.Native.Nat.{ℕ, _+_, _*_, _≤_, _<_};
+ghost use lib.ListN.{length, getD};
+ghost use Rattle.units.specs.Limits.{mostNodes};
+ghost use Rattle.plan.specs.Plan.{Each};
+ghost use Rattle.service.specs.Service.{InPlan};
+ghost use Rattle.service.specs.Tables.{served, IsService};
+ghost use Rattle.walk.specs.Walk.{GoodAsk};
+ghost use Rattle.network.specs.Model.{behind, relax, relaxed};
+ghost use Rattle.network.specs.Network.{never, NotLater};
+ghost use Rattle.layers.specs.Bridge.{networkOf};
+ghost use Rattle.layers.specs.Words.{whenWord, TimeWord, rowOf, layerOf, Layered, Listed, Tried, Older, AreEnds};
+
+// When the file is ready behind the contact, as a word, from when it is ready before it.
+pub fn arrive(
+    contacts: &[u64],
+    contact_count: usize,
+    lights: &[u32],
+    lefts: &[u64],
+    ask: Ask,
+    no: ContactNo,
+    ready: u64,
+) -> u64
+    requires { ⌜ IsService (now contacts) «contact_count» (now lights) (now lefts) × GoodAsk ask × InPlan (served (now contacts) «contact_count» (now lights) (now lefts)) (no .0) × TimeWord ready ⌝ }
+    ensures { λ r. ⌜ (whenWord r ≡ behind (networkOf (served (now (contacts .entry)) «contact_count» (now (lights .entry)) (now (lefts .entry))) ask) (no .0) (whenWord ready)) × TimeWord r ⌝ }
+{
+    if ready == NEVER {
+        return NEVER;
+    }
+    let from = contact_numbered(contacts, no).from;
+    let arrival = step(
+        contacts,
+        contact_count,
+        lights,
+        lefts,
+        ask,
+        from,
+        Millis(ready),
+        no,
+    );
+    match arrival {
+        Arrival::Ready(t) => t.0,
+        Arrival::Never => NEVER,
+    }
+}
+
+// The nodes that a contact is from and to, counted from 0.
+pub struct Ends {
+    pub from: usize,
+    pub to: usize,
+}
+
+pub fn ends_of(
+    contacts: &[u64],
+    contact_count: usize,
+    lights: &[u32],
+    lefts: &[u64],
+    no: ContactNo,
+) -> Ends
+    requires { ⌜ IsService (now contacts) «contact_count» (now lights) (now lefts) × InPlan (served (now contacts) «contact_count» (now lights) (now lefts)) (no .0) ⌝ }
+    ensures { λ r. ⌜ AreEnds (served (now (contacts .entry)) «contact_count» (now (lights .entry)) (now (lefts .entry))) (no .0) (r .from) (r .to) ⌝ }
+{
+    let c = contact_numbered(contacts, no);
+    Ends {
+        from: (c.from.0 - 1) as usize,
+        to: (c.to.0 - 1) as usize,
+    }
+}
+
+// Whether the times alone show that the contact brings the file no earlier than `there`: it is ready
+// before the contact no earlier than that, or only after the contact's end, or the contact starts no
+// earlier than that.
+fn is_late(
+    contacts: &[u64],
+    contact_count: usize,
+    lights: &[u32],
+    lefts: &[u64],
+    ask: Ask,
+    no: ContactNo,
+    ready: u64,
+    there: u64,
+) -> bool
+    requires { ⌜ IsService (now contacts) «contact_count» (now lights) (now lefts) × GoodAsk ask × InPlan (served (now contacts) «contact_count» (now lights) (now lefts)) (no .0) × TimeWord ready ⌝ }
+    ensures { λ t. ⌜ (t ≡ true → NotLater (whenWord there) (behind (networkOf (served (now (contacts .entry)) «contact_count» (now (lights .entry)) (now (lefts .entry))) ask) (no .0) (whenWord ready))) ⌝ }
+{
+    if there <= ready {
+        return true;
+    }
+    let c = contact_numbered(contacts, no);
+    if c.end.0 < ready {
+        return true;
+    }
+    there <= c.start.0
+}
+
+// One contact tried: the node that it is to may be reached earlier by it, in row k + 1, where `ready` is the
+// word of the node that it is from, in row k.
+fn try_contact(
+    contacts: &[u64],
+    contact_count: usize,
+    lights: &[u32],
+    lefts: &[u64],
+    ask: Ask,
+    words: &mut [u64],
+    k: usize,
+    no: ContactNo,
+    ready: u64,
+)
+    requires { ⌜ IsService (now contacts) «contact_count» (now lights) (now lefts) × GoodAsk ask × InPlan (served (now contacts) «contact_count» (now lights) (now lefts)) (no .0) × Each TimeWord (now words) × ((k + 2) * mostNodes ≤ length (now words)) × (ready ≡ getD (rowOf (now words) k) (networkOf (served (now contacts) «contact_count» (now lights) (now lefts)) ask .from (no .0)) 0) ⌝ }
+    ensures { λ _. ⌜ Layered (now (words .entry)) (now (words .exit)) k (relax (networkOf (served (now (contacts .entry)) «contact_count» (now (lights .entry)) (now (lefts .entry))) ask) (layerOf (now (words .entry)) k) (no .0) (layerOf (now (words .entry)) (k + 1))) ⌝ }
+{
+    let to = ends_of(contacts, contact_count, lights, lefts, no).to;
+    let next = k + 1;
+    let there = get(words, next, to);
+    if is_late(
+        contacts,
+        contact_count,
+        lights,
+        lefts,
+        ask,
+        no,
+        ready,
+        there,
+    ) {
+        return;
+    }
+    let arrival = arrive(contacts, contact_count, lights, lefts, ask, no, ready);
+    if arrival < there {
+        put(words, next, to, arrival);
+    }
+}
+
+// The contacts from node v tried, along their list.
+fn try_from(
+    contacts: &[u64],
+    contact_count: usize,
+    lights: &[u32],
+    lefts: &[u64],
+    ask: Ask,
+    words: &mut [u64],
+    k: usize,
+    heads: &[u16],
+    nexts: &[u16],
+    v: usize,
+)
+    requires { ⌜ IsService (now contacts) «contact_count» (now lights) (now lefts) × GoodAsk ask × Each TimeWord (now words) × ((k + 2) * mostNodes ≤ length (now words)) × Listed (now contacts) «contact_count» (now heads) (now nexts) × (v < mostNodes) ⌝ }
+    ensures { λ _. ⌜ Tried (networkOf (served (now (contacts .entry)) «contact_count» (now (lights .entry)) (now (lefts .entry))) ask) (now (words .entry)) (now (words .exit)) k (λ c. networkOf (served (now (contacts .entry)) «contact_count» (now (lights .entry)) (now (lefts .entry))) ask .from c ≡ v) ⌝ }
+{
+    let ready = get(words, k, v);
+    let mut i = first_from(heads, v);
+    while i < contact_count {
+        let number = i + 1;
+        let no = ContactNo(number as u64);
+        try_contact(
+            contacts,
+            contact_count,
+            lights,
+            lefts,
+            ask,
+            words,
+            k,
+            no,
+            ready,
+        );
+        i = next_of(nexts, i);
+    }
+}
+
+// The same. They are looked at no further if the node has in row k the word that it has in row `old`: they
+// were tried from there before, or there was nothing to try. Answers whether the two words differ.
+fn try_changed(
+    contacts: &[u64],
+    contact_count: usize,
+    lights: &[u32],
+    lefts: &[u64],
+    ask: Ask,
+    words: &mut [u64],
+    old: usize,
+    k: usize,
+    heads: &[u16],
+    nexts: &[u16],
+    v: usize,
+) -> bool
+    requires { ⌜ IsService (now contacts) «contact_count» (now lights) (now lefts) × GoodAsk ask × Each TimeWord (now words) × ((k + 2) * mostNodes ≤ length (now words)) × Listed (now contacts) «contact_count» (now heads) (now nexts) × (v < mostNodes) ⌝ }
+    requires { ⌜ Older (networkOf (served (now contacts) «contact_count» (now lights) (now lefts)) ask) (now words) old k × ((u : ℕ) → NotLater (getD (layerOf (now words) (k + 1)) u never) (getD (layerOf (now words) k) u never)) ⌝ }
+    ensures { λ t. ⌜ Tried (networkOf (served (now (contacts .entry)) «contact_count» (now (lights .entry)) (now (lefts .entry))) ask) (now (words .entry)) (now (words .exit)) k (λ c. networkOf (served (now (contacts .entry)) «contact_count» (now (lights .entry)) (now (lefts .entry))) ask .from c ≡ v) × (t ≡ false → now (words .exit) ≡ now (words .entry)) ⌝ }
+{
+    if get(words, old, v) == get(words, k, v) {
+        return false;
+    }
+    try_from(
+        contacts,
+        contact_count,
+        lights,
+        lefts,
+        ask,
+        words,
+        k,
+        heads,
+        nexts,
+        v,
+    );
+    true
+}
+
+// The contacts from every node tried, one node after the other. Answers whether no node's words differed:
+// then nothing was tried.
+pub fn try_all(
+    contacts: &[u64],
+    contact_count: usize,
+    lights: &[u32],
+    lefts: &[u64],
+    ask: Ask,
+    words: &mut [u64],
+    old: usize,
+    k: usize,
+    heads: &[u16],
+    nexts: &[u16],
+) -> bool
+    requires { ⌜ IsService (now contacts) «contact_count» (now lights) (now lefts) × GoodAsk ask × Each TimeWord (now words) × ((k + 2) * mostNodes ≤ length (now words)) × (layerOf (now words) (k + 1) ≡ layerOf (now words) k) × Older (networkOf (served (now contacts) «contact_count» (now lights) (now lefts)) ask) (now words) old k × Listed (now contacts) «contact_count» (now heads) (now nexts) ⌝ }
+    ensures { λ t. ⌜ Layered (now (words .entry)) (now (words .exit)) k (relaxed (networkOf (served (now (contacts .entry)) «contact_count» (now (lights .entry)) (now (lefts .entry))) ask) (layerOf (now (words .entry)) k) «contact_count») × (t ≡ true → now (words .exit) ≡ now (words .entry)) ⌝ }
+{
+    let mut same = true;
+    let mut v: usize = 0;
+    while v < NODES {
+        let changed = try_changed(
+            contacts,
+            contact_count,
+            lights,
+            lefts,
+            ask,
+            words,
+            old,
+            k,
+            heads,
+            nexts,
+            v,
+        );
+        if changed {
+            same = false;
+        }
+        v += 1;
+    }
+    same
+}
