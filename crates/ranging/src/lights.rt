@@ -141,14 +141,14 @@ fn light_along(
 }
 
 // The last range of the list from row `begin` on that ends by the time, as the one in that row does.
-fn pass_over(ranges: &[u64], range_count: usize, nexts: &[u16], begin: usize, time: u64) -> usize
-    requires { ⌜ RangesLinked (now ranges) «range_count» (now nexts) × Past (now ranges) «range_count» (slotAt (now ranges) begin) time begin ⌝ }
-    ensures { λ r. ⌜ Past (now (ranges .entry)) «range_count» (slotAt (now (ranges .entry)) begin) time r ⌝ }
+fn pass_over(ranges: &[u64], range_count: usize, nexts: &[u16], begin: usize, time: Millis) -> usize
+    requires { ⌜ RangesLinked (now ranges) «range_count» (now nexts) × Past (now ranges) «range_count» (slotAt (now ranges) begin) (time .0) begin ⌝ }
+    ensures { λ r. ⌜ Past (now (ranges .entry)) «range_count» (slotAt (now (ranges .entry)) begin) (time .0) r ⌝ }
 {
     let mut j = begin;
     let mut next = next_of(nexts, j);
     while next < range_count {
-        if time < range_row(ranges, next).end.0 {
+        if time.0 < range_row(ranges, next).end.0 {
             return j;
         }
         j = next;
@@ -159,15 +159,15 @@ fn pass_over(ranges: &[u64], range_count: usize, nexts: &[u16], begin: usize, ti
 
 // A range of the list of row `head` that ends by the time: the one kept beside it, if it does, or else the
 // one in row `head`, which does.
-fn begin_at(ranges: &[u64], range_count: usize, kept: &[u16], head: usize, time: u64) -> usize
-    requires { ⌜ («range_count» * words ≤ length (now ranges)) × Kept (now ranges) «range_count» (now kept) × Past (now ranges) «range_count» (slotAt (now ranges) head) time head ⌝ }
-    ensures { λ r. ⌜ Past (now (ranges .entry)) «range_count» (slotAt (now (ranges .entry)) head) time r ⌝ }
+fn begin_at(ranges: &[u64], range_count: usize, kept: &[u16], head: usize, time: Millis) -> usize
+    requires { ⌜ («range_count» * words ≤ length (now ranges)) × Kept (now ranges) «range_count» (now kept) × Past (now ranges) «range_count» (slotAt (now ranges) head) (time .0) head ⌝ }
+    ensures { λ r. ⌜ Past (now (ranges .entry)) «range_count» (slotAt (now (ranges .entry)) head) (time .0) r ⌝ }
 {
     let row = kept[head] as usize;
     if range_count <= row {
         return head;
     }
-    if time < range_row(ranges, row).end.0 {
+    if time.0 < range_row(ranges, row).end.0 {
         return head;
     }
     row
@@ -183,15 +183,15 @@ fn open_row(
     ordered: bool,
     kept: &mut [u16],
     head: usize,
-    time: u64,
+    time: Millis,
 ) -> usize
     requires { ⌜ RangesLinked (now ranges) «range_count» (now nexts) × (ordered ≡ true → InOrder (now ranges) «range_count» (now nexts)) × Kept (now ranges) «range_count» (now kept) × (head < «range_count») × LeastFrom (slotAt (now ranges)) 0 «range_count» (slotAt (now ranges) head) head ⌝ }
-    ensures { λ r. ⌜ Passed (now (ranges .entry)) «range_count» (slotAt (now (ranges .entry)) head) time r × Kept (now (ranges .entry)) «range_count» (now (kept .exit)) × (length (now (kept .exit)) ≡ length (now (kept .entry))) ⌝ }
+    ensures { λ r. ⌜ Passed (now (ranges .entry)) «range_count» (slotAt (now (ranges .entry)) head) (time .0) r × Kept (now (ranges .entry)) «range_count» (now (kept .exit)) × (length (now (kept .exit)) ≡ length (now (kept .entry))) ⌝ }
 {
     if !ordered {
         return head;
     }
-    if time < range_row(ranges, head).end.0 {
+    if time.0 < range_row(ranges, head).end.0 {
         return head;
     }
     let begin = begin_at(ranges, range_count, kept, head, time);
@@ -223,6 +223,7 @@ pub fn light_kept(
     if is_covering(r, pair, c) {
         return Light::Of(Millis(r.light.0));
     }
-    let open = open_row(ranges, range_count, nexts, ordered, kept, head, c.start.0);
+    let start = c.start;
+    let open = open_row(ranges, range_count, nexts, ordered, kept, head, start);
     light_along(ranges, range_count, nexts, ordered, open, c)
 }

@@ -27,7 +27,7 @@ returns-2 c = search needs
 
 returns-3 : tie.Need-returns-3
 returns-3 c =
-    let at-row = c .before .before in
+    let at-row = c .before .before .before in
     let pre = at-row .before .before .before .before .before .pre in
     past-kept _ _ _ (pre .1) _ _ _ (pre .2 .below) refl (at-row .before .if1 .left) _ (at-row .range-row .ensures) (c .if2 .left)
 

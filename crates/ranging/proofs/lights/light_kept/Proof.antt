@@ -45,7 +45,7 @@ returns-2 c =
 
 open-row-requires : tie.Need-open-row-requires
 open-row-requires c κs =
-    let at-if = c .before .before .before .before in
+    let at-if = c .before .before .before .before .before in
     let at-head = at-if .before in
     let at-pair = at-head .before in
     let pre = at-pair .before .before .before .before .before .pre in (
@@ -59,7 +59,7 @@ open-row-requires c κs =
 light-along-requires : tie.Need-light-along-requires
 light-along-requires c κs =
     let at-open = c .before .before in
-    let at-if = at-open .before .before .before .before .before in
+    let at-if = at-open .before .before .before .before .before .before in
     let at-head = at-if .before in
     let at-pair = at-head .before in
     let pre = at-pair .before .before .before .before .before .pre in (

@@ -20,13 +20,13 @@ range-row-requires c κs = search needs
 
 returns-2 : tie.Need-returns-2
 returns-2 c =
-    let pre = c .before .before .before .before .before .before .before .pre in
+    let pre = c .before .before .before .before .before .before .before .before .pre in
     (passed-first _ _ _ _ _ (pre .4), pre .2, refl)
 
 begin-at-requires : tie.Need-begin-at-requires
 begin-at-requires c κs =
-    let pre = c .before .before .before .before .before .before .before .before .pre in
-    (pre .0 .lent, pre .2, past-at _ _ _ _ _ (pre .3) refl _ (c .before .before .before .range-row .ensures) (c .before .if2 .left))
+    let pre = c .before .before .before .before .before .before .before .before .before .pre in
+    (pre .0 .lent, pre .2, past-at _ _ _ _ _ (pre .3) refl _ (c .before .before .before .before .range-row .ensures) (c .before .if2 .left))
 
 pass-over-requires : tie.Need-pass-over-requires
 pass-over-requires c κs = search needs
@@ -34,7 +34,7 @@ pass-over-requires c κs = search needs
 cast-kept : tie.Need-cast-kept
 unfolding mostRows
 cast-kept c =
-    let pre = c .before .before .before .before .before .before .before .before .before .before .pre in
+    let pre = c .before .before .before .before .before .before .before .before .before .before .before .pre in
     omega (arith, c .pass-over .ensures .below, pre .0 .few)
 
 mul-kept : tie.Need-mul-kept
@@ -52,7 +52,7 @@ same-length c = search needs
 returns-3 : tie.Need-returns-3
 returns-3 c =
     let at-begin = c .before .before in
-    let at-if = at-begin .before .before .before .before .before in
+    let at-if = at-begin .before .before .before .before .before .before in
     let pre = at-if .before .before .before .before .pre in
     let past = past-again _ _ _ _ _ _ (at-begin .begin-at .ensures) (c .before .pass-over .ensures) in (
       passed-behind _ _ _ (pre .0) (pre .1 (not-false _ (at-if .if1 .left))) _ _ _ past _ (c .next-of .ensures),

@@ -12,7 +12,7 @@ use Rattle.ranging.proofs.lights.pass_over.Statement.{statement}
 use Rattle.ranging.proofs.lights.pass_over.Tie as tie
 
 abbrev Inv-loop : tie.InvT-loop
-Inv-loop ranges range-count nexts begin time j₀ next₀ j next = Past ranges range-count (slotAt ranges begin) time j × (next ≡ getD nexts j 0)
+Inv-loop ranges range-count nexts begin time j₀ next₀ j next = Past ranges range-count (slotAt ranges begin) (time .0) j × (next ≡ getD nexts j 0)
 
 abbrev μ-loop : tie.MeasureT-loop
 μ-loop ranges range-count nexts begin time j₀ next₀ j next = range-count - j
@@ -29,23 +29,23 @@ range-row-requires : tie.Need-range-row-requires Inv-loop μ-loop
 range-row-requires c κs = omega (arith, c .loop-test .taken, c .before .before .before .before .before .pre .0 .lent)
 
 returns : tie.Need-returns Inv-loop μ-loop
-returns c = c .before .before .before .before .loop .inv .0
+returns c = c .before .before .before .before .before .loop .inv .0
 
 next-of-requires-2 : tie.Need-next-of-requires-2 Inv-loop μ-loop
 next-of-requires-2 c κs =
-    let at-test = c .before .before .before in
+    let at-test = c .before .before .before .before in
     omega (arith, at-test .loop-test .taken, at-test .before .before .before .before .before .pre .0 .a-row-each)
 
 loop-less : tie.Need-loop-less Inv-loop μ-loop
 loop-less c =
-    let at-test = c .before .before .before .before in
+    let at-test = c .before .before .before .before .before in
     let at-loop = at-test .before in
     let inv = at-loop .loop .inv in
     omega (arith, at-test .loop-test .taken, next-later _ _ _ (at-loop .before .before .before .before .pre .0) _ _ (inv .0 .below) (inv .1))
 
 loop-again : tie.Need-loop-again Inv-loop μ-loop
 loop-again c =
-    let at-row = c .before .before .before in
+    let at-row = c .before .before .before .before in
     let at-test = at-row .before in
     let at-loop = at-test .before in
     let inv = at-loop .loop .inv in
