@@ -9,7 +9,7 @@ ghost use Rattle.plan.specs.Verdict.{Verdict};
 ghost use Rattle.lists.specs.Lists.{Linked, pairSlot, slotAt, InOrder};
 ghost use Rattle.lists.specs.Model.{slots, IsPair, Linkable};
 
-// How many slots there are. Pairs of nodes share them: up to 21 nodes, each pair has one of its own.
+// How many slots there are. Pairs of nodes share them: of the nodes 1 to 21 each pair has one of its own.
 pub const SLOTS: usize = 512;
 
 // The most rows that are linked.
