@@ -92,6 +92,12 @@ pub fn plans() -> Vec<Input> {
             plans::shuffled(),
             full_asks(),
         ),
+        Input::new(
+            "spread",
+            "full plan among 32 nodes",
+            plans::full_among(plans::SPREAD_NODES),
+            asks_among(plans::SPREAD_NODES),
+        ),
         Input::new("lunar", "lunar plan", plans::lunar(), lunar_asks()),
         Input::new(
             "line",
@@ -172,9 +178,14 @@ const ASK_SEED: u64 = 1;
 
 /// Asks between any nodes of the full plan.
 fn full_asks() -> Vec<Ask> {
+    asks_among(plans::FULL_NODES)
+}
+
+/// Asks between any nodes of the full plan among so many.
+fn asks_among(nodes: u64) -> Vec<Ask> {
     let random = &mut Random::new(ASK_SEED);
-    let deadline = plans::full().end();
-    let mut nodes: Vec<u64> = (1..=plans::FULL_NODES).collect();
+    let deadline = plans::full_among(nodes).end();
+    let mut nodes: Vec<u64> = (1..=nodes).collect();
     let mut ask = |_| {
         random.shuffle(&mut nodes);
         Ask {

@@ -31,13 +31,20 @@ impl Rows {
 
 /// The nodes of the full plan.
 pub const FULL_NODES: u64 = 20;
+/// The nodes of the full plan in which pairs of nodes share slots.
+pub const SPREAD_NODES: u64 = 32;
 
-/// As many contacts as there may be among 20 nodes, some minutes to an hour
-/// long, and as many ranges: for each pair two or three, which touch and
-/// together cover all of the time.
+/// The full plan: for each pair two or three ranges.
 pub fn full() -> Rows {
+    full_among(FULL_NODES)
+}
+
+/// As many contacts as there may be, among so many nodes, some minutes to an
+/// hour long, and as many ranges: for each pair some, which touch and together
+/// cover all of the time.
+pub fn full_among(nodes: u64) -> Rows {
     let random = &mut Random::new(FULL_SEED);
-    let nodes = 1..=FULL_NODES;
+    let nodes = 1..=nodes;
     let pairs: Vec<[u64; 2]> = nodes
         .clone()
         .flat_map(|from| nodes.clone().map(move |to| [from, to]))

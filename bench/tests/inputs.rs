@@ -3,7 +3,8 @@
 use std::collections::BTreeSet;
 
 use bench::inputs::{full_book, growth, named, plans, Input, SIZES};
-use bench::plans::{first, full, gaps, layers, line, lunar, shuffled, two_nodes, Rows};
+use bench::plans::{first, full, full_among, gaps, layers, line, lunar, shuffled, two_nodes};
+use bench::plans::{Rows, SPREAD_NODES};
 use second::book::OPEN;
 use second::plain::light;
 use second::plan::Row;
@@ -20,6 +21,7 @@ fn counts(rows: &Rows) -> [usize; 3] {
 fn plans_have_the_sizes_that_they_are_to_have() {
     assert_eq!(counts(&full()), [ROWS, ROWS, 20]);
     assert_eq!(counts(&shuffled()), [ROWS, ROWS, 20]);
+    assert_eq!(counts(&full_among(SPREAD_NODES)), [ROWS, ROWS, 32]);
     assert_eq!(counts(&lunar())[2], 20);
     assert_eq!(counts(&line()), [63, 63, 64]);
     assert_eq!(counts(&layers()), [ROWS, ROWS, 64]);
