@@ -12,6 +12,7 @@ mod passes;
 mod places;
 mod plans;
 mod ring;
+mod rows;
 mod rules;
 mod show;
 mod stairs;

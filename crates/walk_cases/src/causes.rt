@@ -1,74 +1,55 @@
 // Why a chain is turned down: each cause alone, each two at one position, and faults at two positions.
+use crate::rows::on_plan;
 use crate::show::ask;
-use crate::show::show;
-use units::Ask;
-use walk::walk;
-ghost use Prim.Native.Nat.{_<_};
-
-// Writes row k, counted from 0, of a table of 16 rows.
-fn put(table: &mut [u64; 80], k: usize, row: [u64; 5])
-    requires { ⌜ k < 16 ⌝ }
-{
-    let at = k * 5;
-    table[at] = row[0];
-    table[at + 1] = row[1];
-    table[at + 2] = row[2];
-    table[at + 3] = row[3];
-    table[at + 4] = row[4];
-}
-
-fn lent(name: &[u8], contacts: &[u64; 80], ranges: &[u64; 80], ask: Ask, chain: &[u64]) {
-    show(name, walk(contacts, 16, ranges, 5, ask, chain));
-}
 
 // The good ones: 1 and 2 go from node 1 by 2 to 5, 3 back from 2 to 1, and 4 from 3 to 5. No range has node 4 or
 // 6, and from 20,000 on the contacts are too short.
-fn put_contacts(table: &mut [u64; 80]) {
-    put(table, 0, [0, 10_000, 1, 2, 1000]);
-    put(table, 1, [0, 10_000, 2, 5, 1000]);
-    put(table, 2, [0, 10_000, 2, 1, 1000]);
+const CONTACTS: [[u64; 5]; 16] = [
+    [0, 10_000, 1, 2, 1000],
+    [0, 10_000, 2, 5, 1000],
+    [0, 10_000, 2, 1, 1000],
     // 4: good from node 3
-    put(table, 3, [0, 10_000, 3, 5, 1000]);
+    [0, 10_000, 3, 5, 1000],
     // 5: to an excluded neighbour
-    put(table, 4, [0, 10_000, 1, 3, 1000]);
+    [0, 10_000, 1, 3, 1000],
     // 6: unranged
-    put(table, 5, [0, 10_000, 1, 4, 1000]);
+    [0, 10_000, 1, 4, 1000],
     // 7: too short
-    put(table, 6, [20_000, 20_500, 1, 2, 1000]);
+    [20_000, 20_500, 1, 2, 1000],
     // 8: unranged, too short
-    put(table, 7, [20_000, 20_500, 1, 4, 1000]);
+    [20_000, 20_500, 1, 4, 1000],
     // 9: to an excluded neighbour, unranged
-    put(table, 8, [0, 10_000, 1, 6, 1000]);
+    [0, 10_000, 1, 6, 1000],
     // 10: to an excluded neighbour, too short
-    put(table, 9, [20_000, 20_500, 1, 3, 1000]);
+    [20_000, 20_500, 1, 3, 1000],
     // 11: unranged, from node 2
-    put(table, 10, [0, 10_000, 2, 4, 1000]);
+    [0, 10_000, 2, 4, 1000],
     // 12: too short, from node 2
-    put(table, 11, [20_000, 20_500, 2, 5, 1000]);
+    [20_000, 20_500, 2, 5, 1000],
     // 13: unranged, from node 3
-    put(table, 12, [0, 10_000, 3, 4, 1000]);
+    [0, 10_000, 3, 4, 1000],
     // 14: too short, from node 3
-    put(table, 13, [20_000, 20_500, 3, 5, 1000]);
+    [20_000, 20_500, 3, 5, 1000],
     // 15: to an excluded neighbour, unranged, too short
-    put(table, 14, [20_000, 20_500, 1, 6, 1000]);
+    [20_000, 20_500, 1, 6, 1000],
     // 16: unranged, too short, from node 3
-    put(table, 15, [20_000, 20_500, 3, 4, 1000]);
-}
+    [20_000, 20_500, 3, 4, 1000],
+];
+
+const RANGES: [[u64; 5]; 5] = [
+    [0, 30_000, 1, 2, 10],
+    [0, 30_000, 2, 5, 20],
+    [0, 30_000, 1, 5, 30],
+    [0, 30_000, 1, 3, 40],
+    [0, 30_000, 3, 5, 50],
+];
 
 // From node 1 to node 5, with 3 and 6 excluded.
 fn case(name: &[u8], deadline: u64, chain: &[u64]) {
-    let mut contacts = [0u64; 80];
-    put_contacts(&mut contacts);
-    let mut ranges = [0u64; 80];
-    put(&mut ranges, 0, [0, 30_000, 1, 2, 10]);
-    put(&mut ranges, 1, [0, 30_000, 2, 5, 20]);
-    put(&mut ranges, 2, [0, 30_000, 1, 5, 30]);
-    put(&mut ranges, 3, [0, 30_000, 1, 3, 40]);
-    put(&mut ranges, 4, [0, 30_000, 3, 5, 50]);
-    lent(
+    on_plan(
         name,
-        &contacts,
-        &ranges,
+        &CONTACTS,
+        &RANGES,
         ask(1, 5, 0, 1000, deadline, 36),
         chain,
     );

@@ -8,6 +8,7 @@ mod long;
 mod loops;
 mod order;
 mod plans;
+mod rows;
 mod show;
 mod tables;
 
