@@ -1,13 +1,13 @@
 // `walk::walk` over chains whose answers are known: a line a case, its name and the answer. The
 // answers in `stdout` were computed by another program, from the request's definitions.
 mod asks;
-mod causes;
 mod chains;
 mod figures;
 mod long;
 mod loops;
 mod order;
 mod plans;
+mod reasons;
 mod rows;
 mod show;
 mod tables;
@@ -23,9 +23,9 @@ fn main() {
     asks::cases();
     tables::cases();
     order::cases();
-    causes::alone();
-    causes::two();
-    causes::last();
-    causes::twice();
+    reasons::alone();
+    reasons::two();
+    reasons::last();
+    reasons::twice();
     long::cases();
 }
