@@ -8,6 +8,7 @@
 //! cargo run --release --offline -- [--seed N] [--calls N] [--threads N]
 //! cargo run --release --offline -- --seed N --only N
 //! cargo run --release --offline --bin sessions
+//! cargo run --release --offline --bin pairs
 //! cargo run --release --offline --bin memory
 //! ```
 //!
