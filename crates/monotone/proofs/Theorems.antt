@@ -1,12 +1,12 @@
--- 'Earlier, smaller, more', of any two answers that meet the promise of the call, `RoutesOver`: `route` on a plan, or `route_booked` over a plan with its
--- book. Plan, book, class and the rest of the ask are the same in both. The refusals 13 and 14 are later than any time; an answer with another refusal does
--- not deliver, and the first three say nothing of it: a later time that is out of its range (11) is one.
+-- 'Earlier, smaller, more', of any two answers that meet the promise of the call: `route` on a plan, or `route_booked` over a plan with its book. Plan,
+-- book, class and the rest of the ask are the same in both. The refusals 13 and 14 are later than any time. Answers with another refusal are not compared: a
+-- later time and a larger size that are out of their range (11), or a further contact with which the plan is not valid (9).
 --     later-never-earlier       asking later never delivers earlier
 --     larger-never-earlier      a larger file never delivers earlier
 --     further-never-later       a further contact, at the end of a plan that stays valid, never makes delivery later
 --     deadline-keeps            a later deadline never turns a route away, and changes neither its delivery nor its chain
 --     until-last-call           from any time between the ask's and the last call, both included, the answer is a route
--- The last two also say that the second answer is no other refusal: they ask for no more than a deadline that is a time and a lent chain that is long enough.
+-- The last two say that the second answer is no refusal at all, where the later deadline is a time and the lent chain has its 63 places.
 -- Assumes nothing.
 use mathlib.Core.List.{List}
 use Prim.Native.Nat.{ℕ, _≤_}

@@ -1,6 +1,6 @@
 -- What 'Earlier, smaller, more' of the request speaks of: two answers of a call for a route, and the asks and plans that they are for.
 --     RoutesOver      an answer of `route`, or of `route_booked` over a plan with its book
---     Delivers        when an answer delivers: the refusals 13 and 14 are later than any time, and the others do not count
+--     Delivers        when an answer delivers, or that it is later than any time
 --     Found           the answer is no refusal
 --     KeepsRoute      an answer that keeps a route
 --     askBy           the same ask with another deadline; `askAt` and `askOf` of timing are the ask at another time and of another size
@@ -33,8 +33,8 @@ pub data RoutesOver (contacts : List ℕ) (m : ℕ) (ranges : List ℕ) (n : ℕ
   booked : {book chains : List ℕ} {class : ℕ} {ask : Ask} {before after : List ℕ} {r : Routed}
       → RoutesBooked contacts m ranges n book chains ask class before r after → RoutesOver contacts m ranges n (with-book book chains class) ask before r after
 
--- When an answer delivers. An answer that is neither a route nor 13 or 14 delivers at no time, not even never: something was wrong with the tables, the
--- book, the ask, the class or the lent chain (9, 11, 12, 15, 24), and the request compares no such answer.
+-- When an answer delivers: a route at its delivery, and the refusals 13 and 14 later than any time. The other refusals (9, 11, 12, 15, 24) say that
+-- something was wrong with the tables, the book, the ask, the class or the lent chain: they have no time here, and are not compared.
 pub data Delivers : Routed → When → Type 0 where
   route : {f : Figures} {k : ℕ} → Delivers (Best f k) (at (f .delivery .0))
   refused-13 : Delivers (Refused NoChain) never
