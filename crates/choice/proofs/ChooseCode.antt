@@ -100,11 +100,11 @@ module _ (p : Service) (ask : Ask) (before : List When) (v limit c : ℕ) (leads
       elim (rw hop at h) [ ]
   barred-never never e h = elim h [ ]
 
-  pub lead-back : limitOver p ask c limit ≡ networkOf p ask .back c limit
+  pub lead-back : limitOver p (ask .size) c limit ≡ networkOf p ask .back c limit
   unfolding networkOf backStep
   lead-back = go (isBarred ask (contactOf p c)) refl
     where
-      go : (b : Bool) → isBarred ask (contactOf p c) ≡ b → limitOver p ask c limit ≡ networkOf p ask .back c limit
+      go : (b : Bool) → isBarred ask (contactOf p c) ≡ b → limitOver p (ask .size) c limit ≡ networkOf p ask .back c limit
       go true e = absurd (barred-never (getD before (networkOf p ask .from c) never) e (leads .in-time))
       go false e = rw e
 
@@ -120,7 +120,7 @@ module _ (p : Service) (ask : Ask) (L : Laws (networkOf p ask)) (entry chain wor
       subst (Leads (networkOf p ask) (layer (networkOf p ask) (k - 1)) v limit) (sym found-lowest) (working-leads (networkOf p ask) L entry count g r chain k v limit h w)
 
   pub found-goes : (exit : List ℕ) (from to limit' : ℕ) → count ≤ length entry → exit ≡ set chain (k - 1) c → AreEnds p c from to
-      → limit' ≡ limitOver p ask c limit → Working (networkOf p ask) entry exit count g r (k - 1) from limit'
+      → limit' ≡ limitOver p (ask .size) c limit → Working (networkOf p ask) entry exit count g r (k - 1) from limit'
   unfolding networkOf
   found-goes exit from to limit' room ee ends el =
       working-goes (networkOf p ask) L entry count g r chain exit k v limit c from limit' h room w found-lowest ee (ends .from-is)

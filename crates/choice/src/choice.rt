@@ -138,7 +138,7 @@ pub fn choose(
             limit.0,
         );
         chain[k] = no.0;
-        limit = back_over(contacts, contact_count, lights, lefts, ask, no, limit);
+        limit = back_over(contacts, contact_count, lights, lefts, ask.size, no, limit);
         v = ends_of(contacts, contact_count, lights, lefts, no).from;
     }
 }

@@ -16,19 +16,20 @@ use Rattle.walk.specs.Model.{limitBefore}
 use Rattle.timing.proofs.ChainLaws.{carries-at}
 use Rattle.timing.proofs.HopLaws.{back-enough, back-needed}
 
-module _ (p : Service) (ask : Ask) where
-  pub limit-append : (xs ys : List ℕ) (limit : ℕ) → limitBefore p ask (xs ++ ys) limit ≡ limitBefore p ask xs (limitBefore p ask ys limit)
+module _ (p : Service) (size : ℕ) where
+  pub limit-append : (xs ys : List ℕ) (limit : ℕ) → limitBefore p size (xs ++ ys) limit ≡ limitBefore p size xs (limitBefore p size ys limit)
   unfolding limitBefore
   limit-append [] ys limit = refl
-  limit-append (c ∷ xs) ys limit = ap (backOver (lightIn p c) (leftIn p c) (contactOf p c) (ask .size)) (limit-append xs ys limit)
+  limit-append (c ∷ xs) ys limit = ap (backOver (lightIn p c) (leftIn p c) (contactOf p c) size) (limit-append xs ys limit)
 
-  pub limit-needed : {u t : ℕ} {cs : List ℕ} {v r : ℕ} (limit : ℕ) → Carries p ask u t cs v r → r < limit → t < limitBefore p ask cs limit
+module _ (p : Service) (ask : Ask) where
+  pub limit-needed : {u t : ℕ} {cs : List ℕ} {v r : ℕ} (limit : ℕ) → Carries p ask u t cs v r → r < limit → t < limitBefore p (ask .size) cs limit
   unfolding limitBefore
   limit-needed limit stays h = h
   limit-needed limit (hops _ _ _ e k) h = back-needed _ _ _ _ _ _ _ e (limit-needed limit k h)
 
   -- of a chain that carries the file from some time
-  pub limit-enough : {u s : ℕ} {cs : List ℕ} {v q : ℕ} (limit t : ℕ) → Carries p ask u s cs v q → t < limitBefore p ask cs limit
+  pub limit-enough : {u s : ℕ} {cs : List ℕ} {v q : ℕ} (limit t : ℕ) → Carries p ask u s cs v q → t < limitBefore p (ask .size) cs limit
       → (r : ℕ) × Carries p ask u t cs v r × (r < limit)
   unfolding limitBefore
   limit-enough limit t stays h = (t, stays, h)
@@ -38,11 +39,11 @@ module _ (p : Service) (ask : Ask) where
       (r, hops i f b e k', m)
 
   pub last-call-is : {chain : List ℕ} {r : ℕ} → Allowed p ask chain r → r < ask .deadline .0
-      → IsLastCall p ask chain (limitBefore p ask chain (ask .deadline .0) - 1)
+      → IsLastCall p ask chain (limitBefore p (ask .size) chain (ask .deadline .0) - 1)
   last-call-is {chain} a h =
       let deadline : ℕ = ask .deadline .0 in
-      let last : ℕ = limitBefore p ask chain deadline - 1 in
-      let before : ask .time .0 < limitBefore p ask chain deadline = limit-needed deadline (a .carried) h in
+      let last : ℕ = limitBefore p (ask .size) chain deadline - 1 in
+      let before : ask .time .0 < limitBefore p (ask .size) chain deadline = limit-needed deadline (a .carried) h in
       let (q, k, l) = limit-enough deadline last (a .carried) (omega arith) in
       record {
         not-before = omega arith;

@@ -57,7 +57,7 @@ opens-lent contacts m lights lefts c i t x r ex er = er ∙ ap (λ (y : Contact)
 
 module _ (p : Service) (ask : Ask) (chain : List ℕ) where
   pub figures-by : (d o l : Millis) (n : ℕ) → o .0 ≡ startOn (contactOf p (getD chain 0 0)) (ask .time .0)
-      → l .0 ≡ limitBefore p ask chain (ask .deadline .0) - 1 → n ≡ roomOf p ask chain
+      → l .0 ≡ limitBefore p (ask .size) chain (ask .deadline .0) - 1 → n ≡ roomOf p ask chain
       → _≡_ {A = Figures} (record { delivery = d; opens = o; «last_call» = l; room = n }) (figuresOf p ask chain (d .0))
   unfolding figuresOf
   figures-by d o l n eo el en = λ i. record { delivery = d; opens = record { 0 = eo i }; «last_call» = record { 0 = el i }; room = en i }

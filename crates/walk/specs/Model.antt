@@ -30,15 +30,15 @@ goodAsk ask =
     isNode (ask .source) && isNode (ask .destination) && leb (ask .time .0) lastTime && leb 1 (ask .size) && leb (ask .size) mostSize
     && leb (ask .deadline .0) lastTime
 
--- the same over the contact of a number
-abbrev pub limitOver : Service → Ask → ℕ → ℕ → ℕ
-limitOver p ask c limit = backOver (lightIn p c) (leftIn p c) (contactOf p c) (ask .size) limit
+-- the step back over the contact of a number, for a file of that size
+abbrev pub limitOver : Service → ℕ → ℕ → ℕ → ℕ
+limitOver p size c limit = backOver (lightIn p c) (leftIn p c) (contactOf p c) size limit
 
 -- the same over a chain, worked back from its last contact
-unfoldable pub limitBefore : Service → Ask → List ℕ → ℕ → ℕ
+unfoldable pub limitBefore : Service → ℕ → List ℕ → ℕ → ℕ
 unfolding backOver
-limitBefore p ask [] limit = limit
-limitBefore p ask (c ∷ cs) limit = limitOver p ask c (limitBefore p ask cs limit)
+limitBefore p size [] limit = limit
+limitBefore p size (c ∷ cs) limit = limitOver p size c (limitBefore p size cs limit)
 
 abbrev pub isBefore : Arrival → ℕ → Bool
 isBefore (Ready s) limit = ltb (s .0) limit
@@ -72,7 +72,7 @@ unfoldable pub figuresOf : Service → Ask → List ℕ → ℕ → Figures
 figuresOf p ask chain r = record {
   delivery = record { 0 = r };
   opens = record { 0 = startOn (contactOf p (getD chain 0 0)) (ask .time .0) };
-  «last_call» = record { 0 = limitBefore p ask chain (ask .deadline .0) - 1 };
+  «last_call» = record { 0 = limitBefore p (ask .size) chain (ask .deadline .0) - 1 };
   room = roomOf p ask chain;
 }
 

@@ -74,10 +74,18 @@ fn last_call(
     chain: &[u64],
 ) -> Millis
     requires { ⌜ IsService (now contacts) «contact_count» (now lights) (now lefts) × Each (InPlan (served (now contacts) «contact_count» (now lights) (now lefts))) (now chain) × GoodAsk ask ⌝ }
-    ensures { λ r. ⌜ r .0 ≡ limitBefore (served (now (contacts .entry)) «contact_count» (now (lights .entry)) (now (lefts .entry))) ask (now (chain .entry)) (ask .deadline .0) - 1 ⌝ }
+    ensures { λ r. ⌜ r .0 ≡ limitBefore (served (now (contacts .entry)) «contact_count» (now (lights .entry)) (now (lefts .entry))) (ask .size) (now (chain .entry)) (ask .deadline .0) - 1 ⌝ }
 {
     let deadline = ask.deadline;
-    let limit = limit_before(contacts, contact_count, lights, lefts, ask, chain, deadline);
+    let limit = limit_before(
+        contacts,
+        contact_count,
+        lights,
+        lefts,
+        ask.size,
+        chain,
+        deadline,
+    );
     if 0 < limit.0 {
         Millis(limit.0 - 1)
     } else {

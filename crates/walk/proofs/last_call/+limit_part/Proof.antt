@@ -1,10 +1,13 @@
 -- The proof of the cycle of calls {limit_part}. The measure is the number of contacts that remain, which falls by one.
 -- Assumes nothing.
 use Rattle.plan.specs.Plan.{Each}
-use Rattle.walk.proofs.LastCallCode.{part-none, part-more}
+use Rattle.walk.proofs.LastCallCode.{limit-none, limit-fewer, each-take}
+use mathlib.Core.Path.{sym}
+use lib.ListN.{length, length-take}
+use lib.Seq.{length-take-le}
 use native.Mathlib.Omega.{arith}
 use borrow.Author.Needs.{needs}
-use Prim.Native.Nat.{ℕ, _<_}
+use Prim.Native.Nat.{ℕ, _-_, _<_}
 use borrow.Fn.Kinds.{In}
 use borrow.Fn.PlainCycle.{Measures, is, falls, and}
 use Rattle.walk.proofs.last_call.limit_part.Reads as limit-part
@@ -15,7 +18,7 @@ use Rattle.walk.proofs.last_call.+limit_part.{statement}
 use Rattle.walk.proofs.last_call.+limit_part.Tie.{close}
 
 abbrev μ-limit-part : Measures 4 limit-part-kinds.ps ℕ
-μ-limit-part κs a = a .1 .1 .1 .1 .1 .1 .1 .0
+μ-limit-part κs a = length (a .1 .1 .1 .1 .1 .0 .now)
 
 abbrev limit-part-at : ℕ → In 4 limit-part-kinds.ps
 limit-part-at t =
@@ -31,7 +34,7 @@ limit-part-returns : (t : ℕ) → limit-part-lts.Need-returns (
   limit-part-below t,
   limit-part.Post,
 ) (limit-part-at t) limit-part.Post
-limit-part-returns t c = part-none _ _ _ _ _ (c .if1 .taken)
+limit-part-returns t c = limit-none _ _ _ _ (c .if1 .taken)
 
 limit-part-sub-last : (t : ℕ) → limit-part-lts.Need-sub-last (
   back-over-reads.Asked,
@@ -41,29 +44,21 @@ limit-part-sub-last : (t : ℕ) → limit-part-lts.Need-sub-last (
 ) (limit-part-at t) limit-part.Post
 limit-part-sub-last t c = omega arith
 
-limit-part-add-t14 : (t : ℕ) → limit-part-lts.Need-add-t14 (
+limit-part-mul-t11 : (t : ℕ) → limit-part-lts.Need-mul-t11 (
   back-over-reads.Asked,
   back-over-reads.Learnt,
   limit-part-below t,
   limit-part.Post,
 ) (limit-part-at t) limit-part.Post
-limit-part-add-t14 t c = let start = c .before .before .before .before .before in omega (arith, start .pre .1 .3, start .good)
+limit-part-mul-t11 t c = search needs
 
-limit-part-mul-t15 : (t : ℕ) → limit-part-lts.Need-mul-t15 (
+limit-part-shared-slice-read-t14 : (t : ℕ) → limit-part-lts.Need-shared-slice-read-t14 (
   back-over-reads.Asked,
   back-over-reads.Learnt,
   limit-part-below t,
   limit-part.Post,
 ) (limit-part-at t) limit-part.Post
-limit-part-mul-t15 t c = search needs
-
-limit-part-shared-slice-read-t17 : (t : ℕ) → limit-part-lts.Need-shared-slice-read-t17 (
-  back-over-reads.Asked,
-  back-over-reads.Learnt,
-  limit-part-below t,
-  limit-part.Post,
-) (limit-part-at t) limit-part.Post
-limit-part-shared-slice-read-t17 t c = let start = c .before .before .before .before .before .before in omega (arith, start .pre .1 .3, c .before .if1 .left)
+limit-part-shared-slice-read-t14 t c = omega (arith, c .before .if1 .left)
 
 limit-part-back-over-requires : (t : ℕ) → limit-part-lts.Need-back-over-requires (
   back-over-reads.Asked,
@@ -74,7 +69,15 @@ limit-part-back-over-requires : (t : ℕ) → limit-part-lts.Need-back-over-requ
 unfolding Each
 limit-part-back-over-requires t c κs =
     let pre = c .before .before .before .before .before .before .pre .1 in
-    (pre .0, pre .1 0 _ (omega (arith, pre .3, c .before .if1 .left)), pre .2)
+    (pre .0, pre .1 0 _ (omega (arith, c .before .if1 .left)), pre .2)
+
+limit-part-slice-aggregate-limit-part : (t : ℕ) → limit-part-lts.Need-slice-aggregate-limit-part (
+  back-over-reads.Asked,
+  back-over-reads.Learnt,
+  limit-part-below t,
+  limit-part.Post,
+) (limit-part-at t) limit-part.Post
+limit-part-slice-aggregate-limit-part t c = sym (length-take-le _ _ (omega arith))
 
 limit-part-limit-part-requires : (t : ℕ) → limit-part-lts.Need-limit-part-requires (
   back-over-reads.Asked,
@@ -83,9 +86,14 @@ limit-part-limit-part-requires : (t : ℕ) → limit-part-lts.Need-limit-part-re
   limit-part.Post,
 ) (limit-part-at t) limit-part.Post
 limit-part-limit-part-requires t c κs =
-    let start = c .before .before .before .before .before .before .before in
+    let start = c .before .before .before .before .before .before .before .before in
     let pre = start .pre .1 in
-    (omega (arith, start .pre .0, c .before .before .if1 .left), (pre .0, pre .1, pre .2, omega (arith, pre .3)))
+    let chain = start .args .chain .now in
+    let last = length chain - 1 in
+    let fewer = length-take last chain in (
+      omega (arith, start .pre .0, fewer, c .before .before .before .if1 .left),
+      (pre .0, each-take _ chain last (pre .1), pre .2, omega (arith, pre .3, fewer)),
+    )
 
 limit-part-returns-2 : (t : ℕ) → limit-part-lts.Need-returns-2 (
   back-over-reads.Asked,
@@ -94,8 +102,7 @@ limit-part-returns-2 : (t : ℕ) → limit-part-lts.Need-returns-2 (
   limit-part.Post,
 ) (limit-part-at t) limit-part.Post
 limit-part-returns-2 t c =
-    let pre = c .before .before .before .before .before .before .before .before .pre .1 in
-    part-more _ _ _ _ _ _ _ _ (pre .3) (c .before .before .before .if1 .left) (c .before .back-over .ensures) (c .limit-part .ensures)
+    limit-fewer _ _ _ _ _ _ (c .before .before .before .before .if1 .left) (c .before .before .back-over .ensures) (c .limit-part .ensures)
 
 pub +limit-part-spec : {M : Type 1} → statement M
 +limit-part-spec = close μ-limit-part λ t. limit-part-lts.spec (
@@ -108,9 +115,9 @@ pub +limit-part-spec : {M : Type 1} → statement M
     limit-part.Post
     (limit-part-returns t)
     (limit-part-sub-last t)
-    (limit-part-add-t14 t)
-    (limit-part-mul-t15 t)
-    (limit-part-shared-slice-read-t17 t)
+    (limit-part-mul-t11 t)
+    (limit-part-shared-slice-read-t14 t)
     (limit-part-back-over-requires t)
+    (limit-part-slice-aggregate-limit-part t)
     (limit-part-limit-part-requires t)
     (limit-part-returns-2 t)

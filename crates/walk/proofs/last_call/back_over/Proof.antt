@@ -37,7 +37,7 @@ returns c =
     let at-left = c .before in
     let at-light = at-left .before in
     let start = at-light .before .before .before .before .before in
-    back-lent _ _ _ _ _ (start .pre .1) (start .args .ask) _ _ _ _ _ (at-light .before .contact-numbered .ensures) (at-light .light-numbered .ensures)
+    back-lent _ _ _ _ _ (start .pre .1) (start .args .size) _ _ _ _ _ (at-light .before .contact-numbered .ensures) (at-light .light-numbered .ensures)
     (at-left .left-numbered .ensures) (c .back .ensures)
 
 pub back-over-spec : {M : Type 1} → statement M
