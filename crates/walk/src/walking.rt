@@ -131,7 +131,8 @@ pub fn walk_served(
 {
     let arrival = delivery(contacts, contact_count, lights, lefts, ask, chain);
     let Arrival::Ready(delivered) = arrival else {
-        return Walked::Refused(cause(contacts, contact_count, lights, lefts, ask, chain));
+        let why = cause(contacts, contact_count, lights, lefts, ask, chain);
+        return Walked::Refused(why);
     };
     if delivered.0 < ask.deadline.0 {
         Walked::Carried(figures_of(
@@ -205,13 +206,16 @@ pub fn walk(
 ) -> Walked
     ensures { λ r. ⌜ Walks (now (contacts .entry)) «contact_count» (now (ranges .entry)) «range_count» ask (now (chain .entry)) r ⌝ }
 {
-    if !is_plan(contacts, contact_count, ranges, range_count) {
+    let plan = is_plan(contacts, contact_count, ranges, range_count);
+    let good = is_good_ask(ask);
+    let same = ask.source.0 == ask.destination.0;
+    if !plan {
         return Walked::Refused(Refusal::NoPlan);
     }
-    if !is_good_ask(ask) {
+    if !good {
         return Walked::Refused(Refusal::AskValue);
     }
-    if ask.source.0 == ask.destination.0 {
+    if same {
         return Walked::Refused(Refusal::SameNode);
     }
     walk_plan(contacts, contact_count, ranges, range_count, ask, chain)
