@@ -5,12 +5,13 @@
 //!
 //! It makes so many calls of the harness (3000 if not given), and then the
 //! largest there are: `route` over a full plan with a best chain of 63, `walk`
-//! over chains of 10, 63 and 1,000,000 contacts, both over a full book too,
-//! `book_route` there and where the last place is free, `release` of a full
-//! book's last place, `read` of the longest plan and of the longest text, and
-//! `write` of the longest plan. A chain given to a walk may have any length; no
-//! more than 63 places of it are counted as lent. The exit status is 0 only if
-//! every limit is kept and each of the largest calls returns what it must.
+//! over chains of 10, of 63, a little longer than once and twice that, and of
+//! 1,000,000 contacts, both over a full book too, `book_route` there and where
+//! the last place is free, `release` of a full book's last place, `read` of the
+//! longest plan and of the longest text, and `write` of the longest plan. A chain
+//! given to a walk may have any length; no more than 63 places of it are counted
+//! as lent. The exit status is 0 only if every limit is kept and each of the
+//! largest calls returns what it must.
 
 use std::process::ExitCode;
 
@@ -27,12 +28,25 @@ use second::units::{LONGEST_BEST, LONGEST_TEXT, ROWS, WORDS};
 const MOST: usize = 262_144;
 /// The most bytes of stack that any call may take.
 const MOST_STACK: usize = 65_536;
-/// What the stack of `walk` and of `route` may take: what they took before there
-/// were lists of rows, by which plans are tested and light times found.
-const MOST_OF_WALK: usize = 10_263;
+/// What the stack of `walk` may take: a little more than it took with last call
+/// worked back by a function that goes 63 deep.
+const MOST_OF_WALK: usize = 16_000;
+/// What the stack of `route` may take: what it took before there were lists of
+/// rows, by which plans are tested and light times found.
 const MOST_OF_ROUTE: usize = 43_079;
-/// The lengths of the chains that are walked.
-const WALKED: [u64; 3] = [10, 63, 1_000_000];
+/// The length of the longest best chain.
+const BEST: u64 = LONGEST_BEST as u64;
+/// The lengths of the chains that are walked: a short one, the longest best one,
+/// and some that last call is worked back over in two parts and in more.
+const WALKED: [u64; 7] = [
+    10,
+    BEST,
+    BEST + 1,
+    BEST + 2,
+    2 * BEST,
+    2 * BEST + 1,
+    1_000_000,
+];
 /// The words of a table that has room for every plan.
 const TABLE: usize = ROWS * WORDS;
 
@@ -107,8 +121,8 @@ impl Measurer {
         held
     }
 
-    /// Walks chains of several lengths; whether each is allowed, and whether the
-    /// longest took the same stack as the shortest.
+    /// Walks chains of several lengths; whether each is allowed, and whether each
+    /// that is longer than a best chain took the same stack as one of that length.
     fn take_walks(&mut self, random: &mut Random, name: &str, long: fn(u64, u64) -> Given) -> Held {
         let mut held = Held::new();
         let walked = WALKED.map(|length| {
@@ -118,8 +132,8 @@ impl Measurer {
             held.push((limit, returned == 0));
             stack
         });
-        let limit = format!("{name}: the same stack for 10 and 1,000,000");
-        held.push((limit, walked[0] == walked[2]));
+        let limit = format!("{name}: the same stack for {BEST} and for each longer chain");
+        held.push((limit, walked[1..].iter().all(|stack| *stack == walked[1])));
         held
     }
 
