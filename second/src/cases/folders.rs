@@ -4,6 +4,7 @@ use crate::ask::Ask;
 use crate::cases::asks;
 use crate::cases::damage;
 use crate::cases::draft::Draft;
+use crate::cases::edges::EDGES;
 use crate::cases::plans::{self, Family};
 use crate::random::Random;
 use crate::route::Network;
@@ -35,7 +36,7 @@ pub struct Folder {
 }
 
 impl Folder {
-    fn new(name: impl Into<String>, plan_text: Vec<u8>, input: Vec<u8>) -> Self {
+    pub fn new(name: impl Into<String>, plan_text: Vec<u8>, input: Vec<u8>) -> Self {
         Self {
             name: name.into(),
             plan: PlanFile::Text(plan_text),
@@ -61,11 +62,25 @@ pub const TIE_ASK: &[u8] = b"ask\t1\t4\t0\t1000\t20000\t0\n";
 /// are always the same in kind, then one valid and two damaged plans in turn.
 pub fn folder(seed: u64, number: u64, ask_count: usize) -> Folder {
     let random = &mut Random::for_case(seed, number);
-    let after = number.checked_sub(SET_PIECES.len() as u64);
-    match after {
-        None => SET_PIECES[number as usize](random, ask_count),
-        Some(turn) if turn.is_multiple_of(3) => valid(random, turn / 3, ask_count),
-        Some(turn) => damaged(random, turn - turn / 3 - 1),
+    let place = number as usize;
+    if let Some(piece) = SET_PIECES.get(place) {
+        return piece(random, ask_count);
+    }
+    match EDGES.get(place - SET_PIECES.len()) {
+        Some(edge) => edge(random),
+        None => in_turn(random, number - ALWAYS as u64, ask_count),
+    }
+}
+
+/// How many folders are always the same in kind.
+const ALWAYS: usize = SET_PIECES.len() + EDGES.len();
+
+/// A valid plan, then two damaged ones.
+fn in_turn(random: &mut Random, turn: u64, ask_count: usize) -> Folder {
+    if turn.is_multiple_of(3) {
+        valid(random, turn / 3, ask_count)
+    } else {
+        damaged(random, turn - turn / 3 - 1)
     }
 }
 
@@ -184,11 +199,11 @@ fn next_ask(random: &mut Random, draft: &Draft, network: &Network, recent: Optio
 
 #[cfg(test)]
 mod tests {
-    use super::{damage, SET_PIECES};
+    use super::{damage, ALWAYS};
 
     #[test]
     fn every_damage_stands_in_300_folders() {
-        let in_turn = 300 - SET_PIECES.len();
+        let in_turn = 300 - ALWAYS;
         assert!(damage::all().len() <= in_turn - in_turn.div_ceil(3));
     }
 }
