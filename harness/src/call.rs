@@ -61,6 +61,11 @@ impl Function {
         }
     }
 
+    /// Whether it finds a chain.
+    pub fn routes(self) -> bool {
+        matches!(self, Self::Route | Self::RouteBooked | Self::BookRoute)
+    }
+
     /// Whether a chain of any length is given to it.
     pub fn walks(self) -> bool {
         matches!(self, Self::Walk | Self::WalkBooked)

@@ -49,3 +49,30 @@ impl<T: Copy + PartialEq> Lent<T> {
         Some((from_slice, self.whole[place], other.whole[place]))
     }
 }
+
+#[cfg(test)]
+impl<T> Lent<T> {
+    /// The slice with its guards.
+    pub fn whole_mut(&mut self) -> &mut [T] {
+        &mut self.whole
+    }
+}
+
+#[cfg(test)]
+mod tests {
+    use super::{Lent, GUARD};
+
+    #[test]
+    fn a_difference_is_told_from_the_first_element_on() {
+        let one = Lent::new(&[7u64; 4], || 9);
+        let end = GUARD + 4;
+        for place in [0, GUARD - 1, GUARD, end - 1, end, end + GUARD - 1] {
+            let mut other = one.clone();
+            other.whole_mut()[place] = 8;
+            let from_slice = place as isize - GUARD as isize;
+            let there = if (GUARD..end).contains(&place) { 7 } else { 9 };
+            assert_eq!(one.first_difference(&other), Some((from_slice, there, 8)));
+        }
+        assert_eq!(one.first_difference(&one.clone()), None);
+    }
+}

@@ -16,7 +16,8 @@
 //! A seed (1 if not given) and a case's number give always the same call, so
 //! that `--only` makes one call of a seed again, and shows it. The exit status
 //! is 0 only if nothing differs and each function was seen to give all that it
-//! can: success, every refusal of its own, and 10 for a short answer.
+//! can: success, every refusal of its own, 10 for a short answer, and where it
+//! finds a chain one of 33 contacts or more.
 
 use std::process::ExitCode;
 

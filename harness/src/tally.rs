@@ -6,6 +6,9 @@ use crate::wanted::Wanted;
 /// The largest number of a refusal that a function gives.
 const LARGEST: usize = 26;
 
+/// A chain that is found is long from so many contacts on.
+const LONG: u64 = 33;
+
 /// What a walk must be seen to say of chains that are not allowed.
 const NOT_ALLOWED: &[usize] = &[18, 19, 20, 21, 22, 23];
 
@@ -31,6 +34,8 @@ struct Counts {
     by_number: [u64; LARGEST + 1],
     /// 10 for an answer that is too short, apart from `write`'s own 10.
     short_answer: u64,
+    /// Successes that found a long chain.
+    long_chains: u64,
 }
 
 impl Counts {
@@ -53,6 +58,7 @@ impl Tally {
         } else {
             counts.by_number[wanted.returned as usize] += 1;
         }
+        counts.long_chains += u64::from(wanted.contacts >= LONG);
         self.differences += u64::from(differs);
     }
 
@@ -62,6 +68,7 @@ impl Tally {
                 *count += more;
             }
             counts.short_answer += others.short_answer;
+            counts.long_chains += others.long_chains;
         }
         self.differences += other.differences;
     }
@@ -86,6 +93,9 @@ impl Tally {
             if counts.short_answer == 0 {
                 missing.push(format!("{} short answer", function.name()));
             }
+            if function.routes() && counts.long_chains == 0 {
+                missing.push(format!("{} {LONG} contacts", function.name()));
+            }
         }
         missing
     }
@@ -106,6 +116,8 @@ impl Tally {
         }
         let short = self.row(functions, |counts| counts.short_answer);
         print_row("short answer", short.into_iter().map(shown));
+        let long = self.row(functions, |counts| counts.long_chains);
+        print_row("long chains", long.into_iter().map(shown));
         let all = self.row(functions, Counts::all);
         let calls: u64 = all.iter().sum();
         print_row("calls", all.into_iter().map(shown));
@@ -130,4 +142,57 @@ fn shown(count: u64) -> String {
 fn print_row(name: &str, row: impl Iterator<Item = String>) {
     let row: String = row.map(|cell| format!("{cell:>13}")).collect();
     println!("{name:<12}{row}");
+}
+
+#[cfg(test)]
+mod tests {
+    use super::{must_meet, Tally, LONG};
+    use crate::call::Function;
+    use crate::wanted::Wanted;
+
+    /// A tally in which a function gave all that it must.
+    fn complete(function: Function) -> Tally {
+        let mut tally = Tally::default();
+        let mut add = |returned: usize, short_answer, contacts| {
+            let returned = returned as u64;
+            let wanted = Wanted {
+                returned,
+                short_answer,
+                contacts,
+            };
+            tally.add(function, &wanted, false);
+        };
+        for number in must_meet(function) {
+            add(number, false, 0);
+        }
+        add(10, true, 0);
+        if function.routes() {
+            add(0, false, LONG);
+        }
+        tally
+    }
+
+    #[test]
+    fn what_is_missing_is_told() {
+        for function in Function::ALL {
+            let tally = complete(function);
+            assert!(tally.is_good(&[function]));
+            let others = Function::ALL.into_iter().filter(|&other| other != function);
+            for other in others {
+                assert!(!tally.is_good(&[function, other]));
+            }
+        }
+        let route = Tally::default().missing(&[Function::Route]);
+        assert_eq!(route.len(), must_meet(Function::Route).len() + 2);
+    }
+
+    #[test]
+    fn one_difference_is_enough() {
+        let mut tally = complete(Function::Write);
+        tally.join(&Tally {
+            differences: 1,
+            ..Tally::default()
+        });
+        assert!(!tally.is_good(&[Function::Write]));
+    }
 }

@@ -7,12 +7,17 @@ use second::{Figures, Refusal, Routed};
 
 use crate::call::{Call, Function, Memory};
 
+/// The place of a found chain's count among the words of an answer.
+const COUNT: usize = 6;
+
 #[derive(Clone, Copy)]
 pub struct Wanted {
     /// The refusal's number, or 0.
     pub returned: u64,
     /// The lent answer is too short, which is judged before anything else.
     pub short_answer: bool,
+    /// The contacts of the chain that is found, or 0.
+    pub contacts: u64,
 }
 
 /// Makes a call by the second program on memory that holds what the call's own
@@ -23,6 +28,7 @@ pub fn by_second(call: &Call, memory: &mut Memory) -> Wanted {
         return Wanted {
             returned: SHORT_OUTPUT,
             short_answer: true,
+            contacts: 0,
         };
     }
     let words = match answered(call, memory) {
@@ -33,6 +39,7 @@ pub fn by_second(call: &Call, memory: &mut Memory) -> Wanted {
     Wanted {
         returned: words[0],
         short_answer: false,
+        contacts: words.get(COUNT).copied().unwrap_or(0),
     }
 }
 

@@ -4,6 +4,7 @@
 use second::book::Book;
 use second::cases::draft::Draft;
 use second::cases::lent::LentBook;
+use second::cases::long_ways::{self, long_way, LongWay};
 use second::cases::{asks, books as good_books};
 use second::plan::Plan;
 use second::random::Random;
@@ -13,7 +14,7 @@ use second::timing::consumption;
 use second::units::{Class, PLACES};
 use second::Ask;
 
-use super::routes::{places, some_ask};
+use super::routes::{places, some_ask, LONG_WAYS};
 use super::walks::{self, Ways};
 use super::{books, chains, plain_tables, plans, tables, words, Given};
 use crate::call::Function;
@@ -96,7 +97,10 @@ pub fn long(length: u64, late_by: u64) -> Given {
 
 /// An ask for a best chain, and places for it.
 fn best(random: &mut Random, function: Function) -> Given {
-    let mut scene = Scene::some(random);
+    let mut scene = match random.below(1000) < LONG_WAYS {
+        true => Scene::long(random),
+        false => Scene::some(random),
+    };
     let network = scene.network();
     let ask = some_ask(random, &scene.draft, &network, |random| scene.ask(random));
     if random.percent(25) {
@@ -115,21 +119,36 @@ struct Scene {
     plan: Plan,
     book: LentBook,
     class: u64,
+    /// The ends of a long way, where the plan has one.
+    ends: Option<(u64, u64)>,
 }
 
 impl Scene {
     fn some(random: &mut Random) -> Self {
         let draft = plans::some(random, 4);
+        Self::of(random, draft, None)
+    }
+
+    fn long(random: &mut Random) -> Self {
+        let LongWay { draft, ends } = long_way(random);
+        Self::of(random, draft, Some(ends))
+    }
+
+    fn of(random: &mut Random, draft: Draft, ends: Option<(u64, u64)>) -> Self {
         Self {
             plan: draft.plan(),
             book: books::some(random, &draft),
             draft,
             class: good_books::class(random),
+            ends,
         }
     }
 
     fn ask(&self, random: &mut Random) -> Ask {
-        good_books::ask(random, &self.draft, &self.book, self.class)
+        match self.ends {
+            Some(ends) => long_ways::ask(random, ends),
+            None => good_books::ask(random, &self.draft, &self.book, self.class),
+        }
     }
 
     fn network(&self) -> Network {

@@ -2,6 +2,7 @@
 
 use second::cases::asks;
 use second::cases::draft::Draft;
+use second::cases::long_ways::{self, long_way};
 use second::random::Random;
 use second::refusal::{Refusal, NO_ALLOWED_CHAIN};
 use second::route::Network;
@@ -11,17 +12,31 @@ use second::Ask;
 
 use super::{plain_tables, plans, tables, words, Given};
 
+/// Of a thousand calls that route so many are about a long way.
+pub const LONG_WAYS: u64 = 6;
+
 pub fn given(random: &mut Random, turn: u64) -> Given {
     if turn == 0 {
         return longest(random);
     }
+    if random.below(1000) < LONG_WAYS {
+        let way = long_way(random);
+        return over(random, &way.draft, |random| {
+            long_ways::ask(random, way.ends)
+        });
+    }
     let draft = plans::some(random, 6);
+    over(random, &draft, |random| asks::ask(random, &draft))
+}
+
+/// An ask over a plan, and places for the chain.
+fn over(random: &mut Random, draft: &Draft, any: impl Fn(&mut Random) -> Ask) -> Given {
     let network = Network::prepare(&draft.plan());
-    let mut ask = some_ask(random, &draft, &network, |random| asks::ask(random, &draft));
+    let mut ask = some_ask(random, draft, &network, any);
     if random.percent(12) {
         ask = asks::at_limits(random, &ask);
     }
-    let tables = tables::some(random, &draft, 10);
+    let tables = tables::some(random, draft, 10);
     Given::route(tables, ask, places(random))
 }
 

@@ -1,6 +1,7 @@
 //! Lent tables: most hold the plan, others are damaged.
 
 use second::cases::draft::{Draft, Kind};
+use second::cases::shared_slots;
 use second::cases::tables::Tables;
 use second::random::Random;
 use second::units::{ROWS, WORDS};
@@ -25,6 +26,7 @@ pub fn some(random: &mut Random, draft: &Draft, damaged: u64) -> Tables {
             *count = random.word();
             tables
         }
+        7..=12 => shared_slots::tables(random),
         _ => {
             for _ in 0..random.between(1, 3) {
                 tables.damage(random);

@@ -5,7 +5,7 @@ use crate::cases::asks;
 use crate::cases::draft::{Draft, Kind};
 use crate::cases::folders::{Folder, FIGURE_ASKS};
 use crate::cases::lines::Pieces;
-use crate::cases::long_ways::long_way;
+use crate::cases::long_ways::{self, long_way};
 use crate::cases::plans::figures_plan;
 use crate::random::Random;
 use crate::units::{HIGHEST_RATE, LATEST_TIME, LONGEST_TEXT, NODES, ROWS};
@@ -203,7 +203,7 @@ fn long_ways(random: &mut Random) -> Folder {
     let mut input = Vec::new();
     for _ in 0..150 {
         let ask = match random.percent(75) {
-            true => way.ask(random),
+            true => long_ways::ask(random, way.ends),
             false => asks::ask(random, &way.draft),
         };
         input.extend(asks::line(&ask));

@@ -84,19 +84,17 @@ fn copy_passes(draft: &mut Draft, (from, to): (u64, u64), (other_from, other_to)
     }
 }
 
-impl LongWay {
-    /// An ask for a small file all along the way, most of them early.
-    pub fn ask(&self, random: &mut Random) -> Ask {
-        let (source, destination) = self.ends;
-        let one = 1 << random.below(NODES);
-        Ask {
-            source,
-            destination,
-            time: random.pick(&[0, 0, 1, 100, 5000]) + random.below(50),
-            size: random.between(1, 10),
-            deadline: random.pick(&[LATEST_TIME, LATEST_TIME, 20_000]),
-            excluded: random.pick(&[0, 0, 0, one]),
-        }
+/// An ask for a small file all along a way between these ends, most of them
+/// early.
+pub fn ask(random: &mut Random, (source, destination): (u64, u64)) -> Ask {
+    let one = 1 << random.below(NODES);
+    Ask {
+        source,
+        destination,
+        time: random.pick(&[0, 0, 1, 100, 5000]) + random.below(50),
+        size: random.between(1, 10),
+        deadline: random.pick(&[LATEST_TIME, LATEST_TIME, 20_000]),
+        excluded: random.pick(&[0, 0, 0, one]),
     }
 }
 

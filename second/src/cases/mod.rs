@@ -17,6 +17,7 @@ pub mod long_ways;
 pub mod plans;
 mod ranging;
 pub mod sessions;
+pub mod shared_slots;
 mod small_plans;
 pub mod steps;
 pub mod tables;
