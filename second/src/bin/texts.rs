@@ -1,17 +1,10 @@
-//! Makes the input and the expected output of the test program `text_cases`:
-//! texts for every refusal of `read` and every order of two, each headed by
-//! its length in four bytes, and a line for each with what this program's
-//! `read` and `write` answer.
-//!
-//! `texts FOLDER` writes FOLDER/stdin and FOLDER/stdout; the first lines of
-//! the stored stdout, for what no text can show, stand before these.
+//! Prints the input of the test program `text_cases`: texts for every refusal of
+//! `read` and every order of two, each headed by its length in four bytes.
+
+use std::io::{self, Write};
 
 use second::cases::{damage, plans};
 use second::random::Random;
-use second::{read, write};
-use std::fs::File;
-use std::io::{self, Write};
-use std::path::Path;
 
 /// Texts that each stand for one rule, most of them by a single byte.
 const TEXTS: &[&[u8]] = &[
@@ -81,29 +74,11 @@ fn texts() -> Vec<Vec<u8>> {
     texts
 }
 
-/// What is answered of a text.
-fn answer(text: &[u8]) -> String {
-    let (mut contacts, mut ranges) = (vec![7; 2560], vec![7; 2560]);
-    match read(text, &mut contacts, &mut ranges) {
-        Ok((m, n)) => {
-            let mut out = vec![0; text.len()];
-            let length = write(&contacts, m as u64, &ranges, n as u64, &mut out)
-                .expect("a plan that was read has room where its text stood");
-            assert!(out == text, "a plan is written back as it was read");
-            format!("plan\t{m}\t{n}\t{length}\n")
-        }
-        Err(why) => format!("refused\t{}\t{}\n", why.number, why.place),
-    }
-}
-
 fn main() -> io::Result<()> {
-    let folder = std::env::args().nth(1).expect("texts FOLDER");
-    let mut input = File::create(Path::new(&folder).join("stdin"))?;
-    let mut output = File::create(Path::new(&folder).join("stdout"))?;
+    let mut output = io::stdout().lock();
     for text in texts() {
-        input.write_all(&(text.len() as u32).to_be_bytes())?;
-        input.write_all(&text)?;
-        output.write_all(answer(&text).as_bytes())?;
+        output.write_all(&(text.len() as u32).to_be_bytes())?;
+        output.write_all(&text)?;
     }
     Ok(())
 }
