@@ -13,7 +13,11 @@ use crate::units::{HIGHEST_RATE, LATEST_TIME, LONGEST_TEXT, NODES, ROWS};
 /// An ask that is answered, up to its last field.
 const ALL_BUT_EXCLUDED: &[u8] = b"ask\t1\t3\t0\t1000\t30000\t";
 
-pub const EDGES: [fn(&mut Random) -> Folder; 22] = [
+/// Asks that are refused with 17 and with 12.
+const NO_FIELDS: &[u8] = b"ask\n";
+const SAME_NODE: &[u8] = b"ask\t1\t1\t0\t1\t9\t0\n";
+
+pub const EDGES: [fn(&mut Random) -> Folder; 23] = [
     |_| asked("only line feeds", vec![b'\n'; LONGEST_TEXT]),
     |_| {
         asked(
@@ -32,7 +36,8 @@ pub const EDGES: [fn(&mut Random) -> Folder; 22] = [
     },
     |_| asked("an ask without its end", without_end(FIGURE_ASKS.to_vec())),
     long_answers,
-    |random| answers_of_two_lengths(random),
+    answers_of_two_lengths,
+    answer_at_the_edge,
     |random| asked("long numbers in asks", long_numbers(random)),
     |random| long_number_in_plan(random, Kind::Contact, false),
     |random| long_number_in_plan(random, Kind::Contact, true),
@@ -97,12 +102,25 @@ fn long_answers(random: &mut Random) -> Folder {
 /// The same with short answers between them.
 fn answers_of_two_lengths(random: &mut Random) -> Folder {
     let input = filled(|| match random.percent(30) {
-        true => random
-            .pick(&[&b"ask\n"[..], b"ask\t1\t1\t0\t1\t9\t0\n", b"\n"])
-            .to_vec(),
+        true => random.pick(&[NO_FIELDS, SAME_NODE, b"\n"]).to_vec(),
         false => ask_on_line(random),
     });
     Folder::new("answers of two lengths", late_line().text(), input)
+}
+
+/// Long answers, and after 64 KiB less 304 bytes of output one of 305 bytes: a
+/// program that prints in parts of 64 KiB must see that it does not fit.
+fn answer_at_the_edge(random: &mut Random) -> Folder {
+    let long = |random: &mut Random, count| -> Vec<u8> {
+        (0..count).flat_map(|_| ask_on_line(random)).collect()
+    };
+    let input = [
+        long(random, 213),
+        SAME_NODE.repeat(9),
+        NO_FIELDS.repeat(10),
+        long(random, 5),
+    ];
+    Folder::new("answer at the edge", late_line().text(), input.concat())
 }
 
 /// An ask all along the line; the deadline shows in its last call.
@@ -213,7 +231,7 @@ fn long_ways(random: &mut Random) -> Folder {
 
 #[cfg(test)]
 mod tests {
-    use super::{answers_of_two_lengths, long_answers, EDGES};
+    use super::{answer_at_the_edge, answers_of_two_lengths, long_answers, EDGES};
     use crate::cases::folders::Folder;
     use crate::program::answers;
     use crate::random::Random;
@@ -245,6 +263,14 @@ mod tests {
             .filter(|line| line.len() == LONGEST_LINE)
             .count();
         assert!(long > 2000 && lines.len() > long + 500);
+    }
+
+    #[test]
+    fn the_answer_at_the_edge_is_a_byte_too_long() {
+        let lines = lines(&answer_at_the_edge(&mut Random::new(1)));
+        let before: usize = lines[..232].iter().map(Vec::len).sum();
+        assert_eq!(before, 65_536 - 304);
+        assert_eq!(lines[232].len(), LONGEST_LINE);
     }
 
     #[test]
