@@ -1,6 +1,8 @@
 //! What `read` is given: texts good and damaged, and tables to fill.
 
 use second::cases::damage::{self, Damage};
+use second::cases::draft::Kind;
+use second::cases::edges::long_number_text;
 use second::random::Random;
 use second::units::{LONGEST_TEXT, ROWS, WORDS};
 
@@ -20,7 +22,7 @@ pub fn given(random: &mut Random, damages: &[Damage], turn: u64) -> Given {
 }
 
 fn some_text(random: &mut Random, damages: &[Damage]) -> Vec<u8> {
-    match random.below(20) {
+    match random.below(21) {
         0..=6 => {
             let damage = &damages[random.index(damages.len())];
             damage::make(random, damage).text
@@ -29,6 +31,11 @@ fn some_text(random: &mut Random, damages: &[Damage]) -> Vec<u8> {
         13..=18 => {
             let draft = plans::some(random, 5);
             texts::scratched(random, &draft)
+        }
+        19 => {
+            let kind = random.pick(&[Kind::Contact, Kind::Range]);
+            let zeros = random.percent(30);
+            long_number_text(random, kind, zeros)
         }
         _ => texts::odd(random),
     }

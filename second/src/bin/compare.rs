@@ -14,6 +14,7 @@ use std::path::{Path, PathBuf};
 use std::process::ExitCode;
 
 use second::cases::folders::{folder, Folder};
+use second::cases::long_ways::FEWEST;
 use second::exhaustive::AllChains;
 use second::options::Options;
 use second::program::answers;
@@ -201,6 +202,7 @@ struct Counts {
     tried_folders: u64,
     asks: u64,
     routes: u64,
+    long_routes: u64,
     refused: BTreeMap<u64, u64>,
     differences: u64,
     differing_folders: u64,
@@ -215,7 +217,10 @@ impl Counts {
             self.asks += u64::from(answered);
             match refused_number(line) {
                 Some(number) => *self.refused.entry(number).or_default() += 1,
-                None => self.routes += 1,
+                None => {
+                    self.routes += 1;
+                    self.long_routes += u64::from(contacts_of(line) >= FEWEST);
+                }
             }
         }
     }
@@ -227,16 +232,24 @@ impl Counts {
             .map(|(number, count)| format!("{number}:{count}"))
             .collect();
         format!(
-            "folders {} ({} by all chains too) asks {} routes {} refused {} differences {} in {} folders",
+            "folders {} ({} by all chains too) asks {} routes {} ({} of {FEWEST} contacts or more) refused {} differences {} in {} folders",
             self.folders,
             self.tried_folders,
             self.asks,
             self.routes,
+            self.long_routes,
             refused.join(" "),
             self.differences,
             self.differing_folders
         )
     }
+}
+
+/// How many contacts an answer that is a route has: what follows its word and
+/// five numbers.
+fn contacts_of(line: &[u8]) -> u64 {
+    let fields = line.split(|&byte| byte == b'\t').count() as u64;
+    fields.saturating_sub(6)
 }
 
 /// The number of an answer that is a refusal.

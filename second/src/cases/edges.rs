@@ -171,8 +171,8 @@ fn long_numbers(random: &mut Random) -> Vec<u8> {
     })
 }
 
-/// A plan that is good up to one line, in which a number has hundreds of digits.
-fn long_number_in_plan(random: &mut Random, kind: Kind, zeros: bool) -> Folder {
+/// A plan's text in which one number of a line has hundreds of digits.
+pub fn long_number_text(random: &mut Random, kind: Kind, zeros: bool) -> Vec<u8> {
     let draft = figures_plan();
     let mut lines = draft.lines();
     let rows = draft.rows(kind);
@@ -185,7 +185,11 @@ fn long_number_in_plan(random: &mut Random, kind: Kind, zeros: bool) -> Folder {
         Kind::Range => draft.contacts.len(),
     };
     lines[before + row] = line.bytes();
-    let text = [b"plan\t1\n".to_vec(), lines.concat()].concat();
+    [b"plan\t1\n".to_vec(), lines.concat()].concat()
+}
+
+fn long_number_in_plan(random: &mut Random, kind: Kind, zeros: bool) -> Folder {
+    let text = long_number_text(random, kind, zeros);
     let name = format!("long number in a {}, zeros {zeros}", kind.word());
     Folder::new(name, text, FIGURE_ASKS.to_vec())
 }

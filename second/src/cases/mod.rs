@@ -7,7 +7,7 @@ pub mod chains;
 pub mod damage;
 pub mod damaged_books;
 pub mod draft;
-mod edges;
+pub mod edges;
 pub mod faulty_lines;
 pub mod folders;
 mod large_plans;
