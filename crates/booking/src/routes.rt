@@ -3,7 +3,8 @@ use crate::checking::Check;
 use crate::checking::checks;
 use crate::serving::serve_booked;
 use search::Routed;
-use search::route_served;
+use search::answer_found;
+use search::find_chain;
 use service::BLANK_LEFT;
 use service::BLANK_LIGHT;
 use units::Ask;
@@ -48,7 +49,8 @@ fn route_through(
         lights,
         lefts,
     );
-    route_served(contacts, contact_count, lights, lefts, ask, chain)
+    let found = find_chain(contacts, contact_count, lights, lefts, ask, chain);
+    answer_found(contacts, contact_count, lights, lefts, ask, chain, found)
 }
 
 // The same, with that table on the stack.

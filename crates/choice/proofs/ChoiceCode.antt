@@ -11,14 +11,18 @@ use native.Mathlib.Omega.{arith}
 use borrow.Author.Tests.{eq-eqb, ne-eqb}
 use lib.Dec.{ltb}
 use lib.ListN.{length, getD}
-use Rattle.units.specs.Limits.{mostNodes}
+use Rattle.units.specs.Limits.{mostNodes, IsNode}
 use Rattle.units.specs.declared.Ask.{Ask}
-use Rattle.service.specs.Service.{Service, contactOf}
+use Rattle.units.specs.declared.NodeNo.{NodeNo}
+use Rattle.plan.specs.declared.rows.Contact.{Contact}
+use Rattle.service.specs.Service.{Service}
 use Rattle.network.specs.Model.{isWithin, leads, lowestFrom, lowest}
 use Rattle.network.specs.Network.{When, at, never, Network}
 use Rattle.layers.specs.Bridge.{networkOf}
-use Rattle.layers.specs.Words.{neverWord, whenWord, rowOf, layerOf, AreEnds}
+use Rattle.layers.specs.Words.{neverWord, whenWord, rowOf, layerOf}
 use Rattle.layers.proofs.ArriveCode.{Arrives}
+use Rattle.layers.proofs.NetworkLaws.{node-below}
+use Rattle.layers.proofs.ReadCode.{Read, read-from, read-to}
 use Rattle.layers.proofs.RowLaws.{when-never, when-below, time-most, getD-layer}
 
 -- a word that says a time is below a limit exactly where that time is within it
@@ -26,25 +30,27 @@ within-word : (w limit : ℕ) → w < neverWord → isWithin (whenWord w) limit 
 unfolding isWithin
 within-word w limit h = rw (when-below w h)
 
-module _ (p : Service) (ask : Ask) (words : List ℕ) (k v limit c from to : ℕ) (ends : AreEnds p c from to) where
-  pub leads-elsewhere : (to ≡ v → ⊥) → false ≡ leads (networkOf p ask) (layerOf words k) v limit c
-  unfolding leads networkOf
-  leads-elsewhere h = rw (← (ends .to-is), ne-eqb to v h)
+-- contact c was read as x, and is held against a node and a limit
+module _ (p : Service) (ask : Ask) (words : List ℕ) (k : ℕ) (node : NodeNo) (limit c : ℕ) (x : Contact) (is-node : IsNode node) (read : Read p c x) where
+  pub leads-elsewhere : (x .to .0 ≡ node .0 → ⊥) → false ≡ leads (networkOf p ask) (layerOf words k) (node .0 - 1) limit c
+  unfolding leads
+  leads-elsewhere h =
+      rw (read-to p ask c x read, ne-eqb (x .to .0 - 1) (node .0 - 1) (λ e. h (omega (arith, is-node .least, read .good .to-node .least))))
 
-  module _ (h : to ≡ v) (inside : (k + 1) * mostNodes ≤ length words) (ready arrival : ℕ) (er : ready ≡ getD (rowOf words k) from 0)
+  module _ (h : x .to .0 ≡ node .0) (inside : (k + 1) * mostNodes ≤ length words) (ready arrival : ℕ) (er : ready ≡ getD (rowOf words k) (x .from .0 - 1) 0)
       (arrives : Arrives p ask c ready arrival) where
-    by-arrival : isWithin (whenWord arrival) limit ≡ leads (networkOf p ask) (layerOf words k) v limit c
-    unfolding leads networkOf
+    by-arrival : isWithin (whenWord arrival) limit ≡ leads (networkOf p ask) (layerOf words k) (node .0 - 1) limit c
+    unfolding leads
     by-arrival =
-        let read : getD (layerOf words k) (contactOf p c .from .0 - 1) never ≡ whenWord ready =
-        ap (λ (i : ℕ). getD (layerOf words k) i never) (sym (ends .from-is)) ∙ getD-layer words k from inside (ends .from-node) ∙ ap whenWord (sym er) in
-        rw (← (ends .to-is), eq-eqb to v h, read, ← (arrives .0))
+        let from-word : getD (layerOf words k) (x .from .0 - 1) never ≡ whenWord ready =
+        getD-layer words k (x .from .0 - 1) inside (node-below (x .from) (read .good .from-node)) ∙ ap whenWord (sym er) in
+        rw (read-to p ask c x read, eq-eqb (x .to .0 - 1) (node .0 - 1) (ap (λ (n : ℕ). n - 1) h), read-from p ask c x read, from-word, ← (arrives .0))
 
-    pub leads-never : arrival ≡ neverWord → false ≡ leads (networkOf p ask) (layerOf words k) v limit c
+    pub leads-never : arrival ≡ neverWord → false ≡ leads (networkOf p ask) (layerOf words k) (node .0 - 1) limit c
     unfolding isWithin
     leads-never e = rw (when-never arrival e) at by-arrival
 
-    pub leads-by : (arrival ≡ neverWord → ⊥) → ltb arrival limit ≡ leads (networkOf p ask) (layerOf words k) v limit c
+    pub leads-by : (arrival ≡ neverWord → ⊥) → ltb arrival limit ≡ leads (networkOf p ask) (layerOf words k) (node .0 - 1) limit c
     leads-by some =
         let most = time-most arrival (arrives .1) in
         let below : arrival < neverWord = omega (arith, most, some) in

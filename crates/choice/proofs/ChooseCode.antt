@@ -13,6 +13,7 @@ use native.Mathlib.Omega.{arith}
 use lib.ListN.{length, getD, take, drop, set, length-set, take-append-drop}
 use lib.Seq.{drop-cons, drop-set-lt, drop-set-add}
 use Rattle.units.specs.declared.Ask.{Ask}
+use Rattle.plan.specs.declared.rows.Contact.{Contact}
 use Rattle.service.specs.Service.{Service, contactOf, InPlan}
 use Rattle.timing.specs.Hop.{isBarred}
 use Rattle.walk.specs.Model.{limitOver}
@@ -21,8 +22,9 @@ use Rattle.network.specs.Network.{When, at, never, Within, Network, Laws}
 use Rattle.network.proofs.Chosen.{Due, due-leads, due-next, fewest-due}
 use Rattle.network.proofs.Lowest.{Leads}
 use Rattle.layers.specs.Bridge.{networkOf, backStep}
-use Rattle.layers.specs.Words.{layerOf, AreEnds}
+use Rattle.layers.specs.Words.{layerOf}
 use Rattle.layers.proofs.NetworkLaws.{contact-in-plan, step-is, barredHop}
+use Rattle.layers.proofs.ReadCode.{Read, read-from}
 
 pub record Working (N : Network) (entry chain : List ℕ) (count g r k v limit : ℕ) : Type 0 where
   pub most : k ≤ count
@@ -119,9 +121,8 @@ module _ (p : Service) (ask : Ask) (L : Laws (networkOf p ask)) (entry chain wor
   found-leads =
       subst (Leads (networkOf p ask) (layer (networkOf p ask) (k - 1)) v limit) (sym found-lowest) (working-leads (networkOf p ask) L entry count g r chain k v limit h w)
 
-  pub found-goes : (exit : List ℕ) (from to limit' : ℕ) → count ≤ length entry → exit ≡ set chain (k - 1) c → AreEnds p c from to
-      → limit' ≡ limitOver p (ask .size) c limit → Working (networkOf p ask) entry exit count g r (k - 1) from limit'
-  unfolding networkOf
-  found-goes exit from to limit' room ee ends el =
-      working-goes (networkOf p ask) L entry count g r chain exit k v limit c from limit' h room w found-lowest ee (ends .from-is)
+  pub found-goes : (exit : List ℕ) (x : Contact) (limit' : ℕ) → count ≤ length entry → exit ≡ set chain (k - 1) c → Read p c x
+      → limit' ≡ limitOver p (ask .size) c limit → Working (networkOf p ask) entry exit count g r (k - 1) (x .from .0 - 1) limit'
+  found-goes exit x limit' room ee read el =
+      working-goes (networkOf p ask) L entry count g r chain exit k v limit c (x .from .0 - 1) limit' h room w found-lowest ee (sym (read-from p ask c x read))
       (el ∙ lead-back p ask (layer (networkOf p ask) (k - 1)) v limit c found-leads)

@@ -2,17 +2,18 @@
 // contact, the lowest number first.
 use layers::NEVER;
 use layers::arrive;
-use layers::ends_of;
 use layers::get;
+use plan::contact_numbered;
 use units::Ask;
 use units::ContactNo;
 use units::Millis;
+use units::NodeNo;
 use walk::back_over;
 ghost use mathlib.Core.List.{_++_};
 ghost use mathlib.Core.Path.{_≡_};
-ghost use Prim.Native.Nat.{ℕ, _+_, _*_, _≤_, _<_};
+ghost use Prim.Native.Nat.{ℕ, _+_, _-_, _*_, _≤_};
 ghost use lib.ListN.{length, drop, getD};
-ghost use Rattle.units.specs.Limits.{lastTime, mostLight, mostNodes};
+ghost use Rattle.units.specs.Limits.{lastTime, mostLight, mostNodes, IsNode};
 ghost use Rattle.plan.specs.Plan.{Each};
 ghost use Rattle.service.specs.Service.{InPlan};
 ghost use Rattle.service.specs.Tables.{served, IsService};
@@ -23,14 +24,14 @@ ghost use Rattle.layers.specs.Bridge.{networkOf, goal};
 ghost use Rattle.layers.specs.Words.{TimeWord, rowOf, layerOf, FirstRow};
 ghost use Rattle.choice.specs.Model.{chainOf};
 
-// The first row up to `last` in which the node has that word: row `last` has it.
-pub fn first_row(words: &[u64], last: usize, v: usize, word: u64) -> usize
-    requires { ⌜ ((last + 1) * mostNodes ≤ length (now words)) × (v < mostNodes) × (getD (rowOf (now words) last) v 0 ≡ word) ⌝ }
-    ensures { λ r. ⌜ FirstRow (now (words .entry)) last v word r ⌝ }
+// The first row up to `last` in which the node has that time: row `last` has it.
+pub fn first_row(words: &[u64], last: usize, node: NodeNo, time: Millis) -> usize
+    requires { ⌜ ((last + 1) * mostNodes ≤ length (now words)) × IsNode node × (getD (rowOf (now words) last) (node .0 - 1) 0 ≡ time .0) ⌝ }
+    ensures { λ r. ⌜ FirstRow (now (words .entry)) last (node .0 - 1) (time .0) r ⌝ }
 {
     let mut k = 0;
     while k < last {
-        if get(words, k, v) == word {
+        if get(words, k, node).0 == time.0 {
             return k;
         }
         k += 1;
@@ -38,7 +39,7 @@ pub fn first_row(words: &[u64], last: usize, v: usize, word: u64) -> usize
     last
 }
 
-// Whether the contact leads to node v below the limit, if its first node is reached as the row has it.
+// Whether the contact leads to the node below the limit, if its first node is reached as the row has it.
 fn is_leading(
     contacts: &[u64],
     contact_count: usize,
@@ -47,25 +48,23 @@ fn is_leading(
     ask: Ask,
     words: &[u64],
     row: usize,
-    v: usize,
-    limit: u64,
+    node: NodeNo,
+    limit: Millis,
     no: ContactNo,
 ) -> bool
-    requires { ⌜ IsService (now contacts) «contact_count» (now lights) (now lefts) × GoodAsk ask × InPlan (served (now contacts) «contact_count» (now lights) (now lefts)) (no .0) × Each TimeWord (now words) × ((row + 1) * mostNodes ≤ length (now words)) ⌝ }
-    ensures { λ t. ⌜ t ≡ leads (networkOf (served (now (contacts .entry)) «contact_count» (now (lights .entry)) (now (lefts .entry))) ask) (layerOf (now (words .entry)) row) v limit (no .0) ⌝ }
+    requires { ⌜ IsService (now contacts) «contact_count» (now lights) (now lefts) × GoodAsk ask × InPlan (served (now contacts) «contact_count» (now lights) (now lefts)) (no .0) × Each TimeWord (now words) × ((row + 1) * mostNodes ≤ length (now words)) × IsNode node ⌝ }
+    ensures { λ t. ⌜ t ≡ leads (networkOf (served (now (contacts .entry)) «contact_count» (now (lights .entry)) (now (lefts .entry))) ask) (layerOf (now (words .entry)) row) (node .0 - 1) (limit .0) (no .0) ⌝ }
 {
-    let ends = ends_of(contacts, contact_count, lights, lefts, no);
-    let from = ends.from;
-    let to = ends.to;
-    if to != v {
+    let pass = contact_numbered(contacts, no);
+    if pass.to.0 != node.0 {
         return false;
     }
-    let ready = get(words, row, from);
+    let ready = get(words, row, pass.from);
     let arrival = arrive(contacts, contact_count, lights, lefts, ask, no, ready);
-    if arrival == NEVER {
+    if arrival.0 == NEVER {
         return false;
     }
-    arrival < limit
+    arrival.0 < limit.0
 }
 
 // The lowest contact that leads there, or 0.
@@ -77,11 +76,11 @@ fn lowest_leading(
     ask: Ask,
     words: &[u64],
     row: usize,
-    v: usize,
-    limit: u64,
+    node: NodeNo,
+    limit: Millis,
 ) -> ContactNo
-    requires { ⌜ IsService (now contacts) «contact_count» (now lights) (now lefts) × GoodAsk ask × Each TimeWord (now words) × ((row + 1) * mostNodes ≤ length (now words)) ⌝ }
-    ensures { λ r. ⌜ r .0 ≡ lowest (networkOf (served (now (contacts .entry)) «contact_count» (now (lights .entry)) (now (lefts .entry))) ask) (layerOf (now (words .entry)) row) v limit ⌝ }
+    requires { ⌜ IsService (now contacts) «contact_count» (now lights) (now lefts) × GoodAsk ask × Each TimeWord (now words) × ((row + 1) * mostNodes ≤ length (now words)) × IsNode node ⌝ }
+    ensures { λ r. ⌜ r .0 ≡ lowest (networkOf (served (now (contacts .entry)) «contact_count» (now (lights .entry)) (now (lefts .entry))) ask) (layerOf (now (words .entry)) row) (node .0 - 1) (limit .0) ⌝ }
 {
     let mut tried: usize = 0;
     while tried < contact_count {
@@ -95,7 +94,7 @@ fn lowest_leading(
             ask,
             words,
             row,
-            v,
+            node,
             limit,
             no,
         ) {
@@ -114,16 +113,16 @@ pub fn choose(
     ask: Ask,
     words: &[u64],
     count: usize,
-    delivered: u64,
+    delivered: Millis,
     chain: &mut [u64],
 )
     requires { ⌜ IsService (now contacts) «contact_count» (now lights) (now lefts) × GoodAsk ask × Each TimeWord (now words) × ((count + 1) * mostNodes ≤ length (now words)) ⌝ }
-    requires { ⌜ ((j : ℕ) → j ≤ count → layerOf (now words) j ≡ layer (networkOf (served (now contacts) «contact_count» (now lights) (now lefts)) ask) j) × (delivery (networkOf (served (now contacts) «contact_count» (now lights) (now lefts)) ask) (goal ask) ≡ at delivered) × (count ≡ fewest (networkOf (served (now contacts) «contact_count» (now lights) (now lefts)) ask) (goal ask)) × (count ≤ length (now chain)) × (delivered ≤ lastTime + mostLight) ⌝ }
-    ensures { λ _. ⌜ now (chain .exit) ≡ chainOf (served (now (contacts .entry)) «contact_count» (now (lights .entry)) (now (lefts .entry))) ask delivered ++ drop count (now (chain .entry)) ⌝ }
+    requires { ⌜ ((j : ℕ) → j ≤ count → layerOf (now words) j ≡ layer (networkOf (served (now contacts) «contact_count» (now lights) (now lefts)) ask) j) × (delivery (networkOf (served (now contacts) «contact_count» (now lights) (now lefts)) ask) (goal ask) ≡ at (delivered .0)) × (count ≡ fewest (networkOf (served (now contacts) «contact_count» (now lights) (now lefts)) ask) (goal ask)) × (count ≤ length (now chain)) × (delivered .0 ≤ lastTime + mostLight) ⌝ }
+    ensures { λ _. ⌜ now (chain .exit) ≡ chainOf (served (now (contacts .entry)) «contact_count» (now (lights .entry)) (now (lefts .entry))) ask (delivered .0) ++ drop count (now (chain .entry)) ⌝ }
 {
     let mut k = count;
-    let mut v = (ask.destination.0 - 1) as usize;
-    let mut limit = Millis(delivered + 1);
+    let mut node = ask.destination;
+    let mut limit = Millis(delivered.0 + 1);
     while 0 < k {
         k -= 1;
         let no = lowest_leading(
@@ -134,11 +133,11 @@ pub fn choose(
             ask,
             words,
             k,
-            v,
-            limit.0,
+            node,
+            limit,
         );
         chain[k] = no.0;
         limit = back_over(contacts, contact_count, lights, lefts, ask.size, no, limit);
-        v = ends_of(contacts, contact_count, lights, lefts, no).from;
+        node = contact_numbered(contacts, no).from;
     }
 }

@@ -4,7 +4,7 @@
 -- Assumes nothing.
 use mathlib.Core.List.{List, map}
 use mathlib.Core.Path.{_≡_, refl, sym, ap, _∙_, subst}
-use Prim.Native.Nat.{ℕ, suc, _+_, _*_, _≤_, _<_}
+use Prim.Native.Nat.{ℕ, suc, _+_, _-_, _*_, _≤_, _<_}
 use native.Mathlib.Nat.{not-suc-le-zero}
 use native.Mathlib.Numerals.{add-one}
 use native.Mathlib.Omega.{arith}
@@ -25,10 +25,13 @@ pub record Copied (entry words : List ℕ) (k v : ℕ) : Type 0 where
 pub copied-none : (entry : List ℕ) (k : ℕ) → Each TimeWord entry → Copied entry entry k 0
 copied-none entry k timed = record { long = refl; timed = timed; kept = λ j l. refl; copied = λ i l. absurd (not-suc-le-zero l) }
 
+-- one node more, whose number is one more than its place
 pub copied-more : (entry words exit : List ℕ) (k v w : ℕ) → (k + 2) * mostNodes ≤ length entry → v < mostNodes → Copied entry words k v
-    → w ≡ getD (rowOf words k) v 0 → exit ≡ set words ((k + 1) * mostNodes + v) w → Copied entry exit k (v + 1)
-copied-more entry words exit k v w inside h before ew ee =
-    let e : exit ≡ set words (suc k * mostNodes + v) w = rw add-one at ee in
+    → w ≡ getD (rowOf words k) (v + 1 - 1) 0 → exit ≡ set words ((k + 1) * mostNodes + (v + 1 - 1)) w → Copied entry exit k (v + 1)
+copied-more entry words exit k v w inside h before read stored =
+    let back : v + 1 - 1 ≡ v = omega arith in
+    let ew : w ≡ getD (rowOf words k) v 0 = rw back at read in
+    let e : exit ≡ set words (suc k * mostNodes + v) w = rw (back, add-one) at stored in
     let this-inside : (k + 1) * mostNodes ≤ length words = omega (arith, before .long) in
     let next-inside : (suc k + 1) * mostNodes ≤ length words = omega (arith, before .long) in
     let row : rowOf exit (suc k) ≡ set (rowOf words (suc k)) v w = ap (λ (ws : List ℕ). rowOf ws (suc k)) e ∙ row-set words (suc k) v w h in

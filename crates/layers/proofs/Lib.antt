@@ -6,5 +6,6 @@ pub mod FillCode
 mod LayerCode
 mod ListedCode
 pub mod NetworkLaws
+pub mod ReadCode
 pub mod RowLaws
 mod TriedCode

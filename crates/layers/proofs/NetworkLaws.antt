@@ -2,6 +2,7 @@
 --     contact-in-plan, in-plan-contact      the contacts of the network are those of the plan
 --     step-is            the network's step over a contact of the plan is the hop, or never where the contact is barred
 --     behind-start, behind-ended      nothing comes over a contact before it starts, nor where it is ready after its end
+--     node-below         a node of the plan is one of the network
 --     goal-node, goal-apart      the destination is a node of it, and not its source
 --     network-laws       the laws hold
 -- Assumes nothing.
@@ -123,8 +124,8 @@ back-is : (p : Service) (ask : Ask) (c limit : ℕ)
 unfolding barredBack networkOf backStep
 back-is p ask c limit = refl
 
--- the number of a node, counted from 0
-node-below : (n : NodeNo) → IsNode n → n .0 - 1 < mostNodes
+-- a node of the plan is one of the network
+pub node-below : (n : NodeNo) → IsNode n → n .0 - 1 < mostNodes
 node-below n h = omega (arith, h .least, h .most)
 
 pub goal-node : (p : Service) (ask : Ask) → GoodAsk ask → goal ask < networkOf p ask .nodes

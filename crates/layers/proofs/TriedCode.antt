@@ -8,7 +8,7 @@
 use mathlib.Core.List.{List, map}
 use mathlib.Core.Logic.{_⊎_, inl, inr, ⊎-elim}
 use mathlib.Core.Path.{_≡_, refl, sym, ap, _∙_, subst}
-use Prim.Native.Nat.{ℕ, suc, _+_, _*_, _≤_, _<_}
+use Prim.Native.Nat.{ℕ, suc, _+_, _-_, _*_, _≤_, _<_}
 use native.Mathlib.Decide.{ℕ-discrete}
 use native.Mathlib.Numerals.{add-one}
 use native.Mathlib.Omega.{arith}
@@ -132,11 +132,11 @@ module _ (N : Network) (k : ℕ) where
             subst (λ (j : ℕ). NotLater (getD (layerOf words j) (N .to c) never) (behind N c (getD (layerOf words k) (N .from c) never))) (add-one k) late;
       }
 
-  -- the contacts from one node more
-  pub tried-more : (entry words exit : List ℕ) (v : ℕ) → Tried N entry words k (λ c. N .from c < v) → Tried N words exit k (λ c. N .from c ≡ v)
+  -- the contacts from one node more, whose number is one more than its place
+  pub tried-more : (entry words exit : List ℕ) (v : ℕ) → Tried N entry words k (λ c. N .from c < v) → Tried N words exit k (λ c. N .from c ≡ v + 1 - 1)
       → Tried N entry exit k (λ c. N .from c < v + 1)
   tried-more entry words exit v t u =
-      tried-then entry words exit t u (λ c here f. elim (ℕ-discrete (N .from c) v) [ yes e ↦ inr e | no e ↦ inl (omega arith) ])
+      tried-then entry words exit t u (λ c here f. elim (ℕ-discrete (N .from c) v) [ yes e ↦ inr (omega arith) | no e ↦ inl (omega arith) ])
 
 -- those of all nodes
 pub tried-nodes : (contacts : List ℕ) (m : ℕ) (lights lefts : List ℕ) (ask : Ask) (k : ℕ) (entry exit : List ℕ) (v : ℕ) → IsService contacts m lights lefts → GoodAsk ask

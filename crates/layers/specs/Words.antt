@@ -16,8 +16,8 @@ use lib.ListN.{length, getD, take, drop, replicate}
 use Rattle.lists.specs.Leaving.{fromAt}
 use Rattle.lists.specs.Lists.{Linked}
 use Rattle.units.specs.Limits.{lastTime, mostLight, mostNodes}
+use Rattle.plan.specs.declared.rows.Contact.{Contact}
 use Rattle.plan.specs.Plan.{Each}
-use Rattle.service.specs.Service.{Service, contactOf}
 use Rattle.network.specs.Model.{behind, relaxed, layer}
 use Rattle.network.specs.Network.{When, at, never, NotLater, Network, IsContact}
 
@@ -85,12 +85,9 @@ pub record Filled (N : Network) (words : List ℕ) (last : ℕ) : Type 0 where
   pub rows : (j : ℕ) → j ≤ last → layerOf words j ≡ layer N j
   pub settled : layer N (mostNodes - 1) ≡ layer N last
 
--- the nodes of the network that contact c is from and to
-pub record AreEnds (p : Service) (c from to : ℕ) : Type 0 where
-  pub from-is : from ≡ contactOf p c .from .0 - 1
-  pub to-is : to ≡ contactOf p c .to .0 - 1
-  pub from-node : from < mostNodes
-  pub to-node : to < mostNodes
+-- the times alone show that a contact brings nothing earlier than `there`, from `ready` on
+abbrev pub LateBy : Contact → ℕ → ℕ → Type 0
+LateBy x ready there = (there ≤ ready) ⊎ ((x .end .0 < ready) ⊎ (there ≤ x .start .0))
 
 -- row r is the first, up to `last`, in which node v has that word
 pub record FirstRow (words : List ℕ) (last v word r : ℕ) : Type 0 where

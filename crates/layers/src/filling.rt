@@ -68,8 +68,7 @@ fn fill_rows(
     requires { ⌜ IsService (now contacts) «contact_count» (now lights) (now lefts) × GoodAsk ask × (now words ≡ blankWords) × Listed (now contacts) «contact_count» (now heads) (now nexts) ⌝ }
     ensures { λ r. ⌜ Filled (networkOf (served (now (contacts .entry)) «contact_count» (now (lights .entry)) (now (lefts .entry))) ask) (now (words .exit)) r ⌝ }
 {
-    let source = (ask.source.0 - 1) as usize;
-    put(words, 0, source, ask.time.0);
+    put(words, 0, ask.source, ask.time);
     let mut old: usize = NODES - 1;
     let mut k: usize = 0;
     while k < NODES - 1 {

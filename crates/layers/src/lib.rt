@@ -7,6 +7,4 @@ mod trying;
 pub use filling::fill;
 pub use rows::NEVER;
 pub use rows::get;
-pub use trying::Ends;
 pub use trying::arrive;
-pub use trying::ends_of;

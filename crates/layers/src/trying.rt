@@ -1,23 +1,25 @@
-// How contacts are tried in a layer: when the file is ready behind a contact and which nodes it is from and
-// to, then one contact tried, those from a node along their list, and those from every node. They are tried
-// out of row k of the lent words, which is layer k, into row k + 1.
+// How contacts are tried in a layer: when the file is ready behind a contact, then one contact tried, those
+// from a node along their list, and those from every node. They are tried out of row k of the lent words,
+// which is layer k, into row k + 1.
 use crate::rows::NEVER;
-use crate::rows::NODES;
 use crate::rows::get;
 use crate::rows::put;
 use lists::first_from;
 use lists::next_of;
+use plan::Contact;
 use plan::contact_numbered;
 use timing::Arrival;
 use timing::step;
 use units::Ask;
 use units::ContactNo;
+use units::MOST_NODES;
 use units::Millis;
+use units::NodeNo;
 ghost use mathlib.Core.Bool.{true, false};
 ghost use mathlib.Core.Path.{_≡_};
-ghost use Prim.Native.Nat.{ℕ, _+_, _*_, _≤_, _<_};
+ghost use Prim.Native.Nat.{ℕ, _+_, _-_, _*_, _≤_};
 ghost use lib.ListN.{length, getD};
-ghost use Rattle.units.specs.Limits.{mostNodes};
+ghost use Rattle.units.specs.Limits.{mostNodes, IsNode};
 ghost use Rattle.plan.specs.Plan.{Each};
 ghost use Rattle.service.specs.Service.{InPlan};
 ghost use Rattle.service.specs.Tables.{served, IsService};
@@ -25,9 +27,9 @@ ghost use Rattle.walk.specs.Walk.{GoodAsk};
 ghost use Rattle.network.specs.Model.{behind, relax, relaxed};
 ghost use Rattle.network.specs.Network.{never, NotLater};
 ghost use Rattle.layers.specs.Bridge.{networkOf};
-ghost use Rattle.layers.specs.Words.{whenWord, TimeWord, rowOf, layerOf, Layered, Listed, Tried, Older, AreEnds};
+ghost use Rattle.layers.specs.Words.{whenWord, TimeWord, rowOf, layerOf, Layered, Listed, Tried, Older, LateBy};
 
-// When the file is ready behind the contact, as a word, from when it is ready before it.
+// When the file is ready behind the contact, from when it is ready before it.
 pub fn arrive(
     contacts: &[u64],
     contact_count: usize,
@@ -35,82 +37,39 @@ pub fn arrive(
     lefts: &[u64],
     ask: Ask,
     no: ContactNo,
-    ready: u64,
-) -> u64
-    requires { ⌜ IsService (now contacts) «contact_count» (now lights) (now lefts) × GoodAsk ask × InPlan (served (now contacts) «contact_count» (now lights) (now lefts)) (no .0) × TimeWord ready ⌝ }
-    ensures { λ r. ⌜ (whenWord r ≡ behind (networkOf (served (now (contacts .entry)) «contact_count» (now (lights .entry)) (now (lefts .entry))) ask) (no .0) (whenWord ready)) × TimeWord r ⌝ }
+    ready: Millis,
+) -> Millis
+    requires { ⌜ IsService (now contacts) «contact_count» (now lights) (now lefts) × GoodAsk ask × InPlan (served (now contacts) «contact_count» (now lights) (now lefts)) (no .0) × TimeWord (ready .0) ⌝ }
+    ensures { λ r. ⌜ (whenWord (r .0) ≡ behind (networkOf (served (now (contacts .entry)) «contact_count» (now (lights .entry)) (now (lefts .entry))) ask) (no .0) (whenWord (ready .0))) × TimeWord (r .0) ⌝ }
 {
-    if ready == NEVER {
-        return NEVER;
+    if ready.0 == NEVER {
+        return Millis(NEVER);
     }
     let from = contact_numbered(contacts, no).from;
-    let arrival = step(
-        contacts,
-        contact_count,
-        lights,
-        lefts,
-        ask,
-        from,
-        Millis(ready),
-        no,
-    );
+    let arrival = step(contacts, contact_count, lights, lefts, ask, from, ready, no);
     match arrival {
-        Arrival::Ready(t) => t.0,
-        Arrival::Never => NEVER,
-    }
-}
-
-// The nodes that a contact is from and to, counted from 0.
-pub struct Ends {
-    pub from: usize,
-    pub to: usize,
-}
-
-pub fn ends_of(
-    contacts: &[u64],
-    contact_count: usize,
-    lights: &[u32],
-    lefts: &[u64],
-    no: ContactNo,
-) -> Ends
-    requires { ⌜ IsService (now contacts) «contact_count» (now lights) (now lefts) × InPlan (served (now contacts) «contact_count» (now lights) (now lefts)) (no .0) ⌝ }
-    ensures { λ r. ⌜ AreEnds (served (now (contacts .entry)) «contact_count» (now (lights .entry)) (now (lefts .entry))) (no .0) (r .from) (r .to) ⌝ }
-{
-    let c = contact_numbered(contacts, no);
-    Ends {
-        from: (c.from.0 - 1) as usize,
-        to: (c.to.0 - 1) as usize,
+        Arrival::Ready(t) => t,
+        Arrival::Never => Millis(NEVER),
     }
 }
 
 // Whether the times alone show that the contact brings the file no earlier than `there`: it is ready
 // before the contact no earlier than that, or only after the contact's end, or the contact starts no
 // earlier than that.
-fn is_late(
-    contacts: &[u64],
-    contact_count: usize,
-    lights: &[u32],
-    lefts: &[u64],
-    ask: Ask,
-    no: ContactNo,
-    ready: u64,
-    there: u64,
-) -> bool
-    requires { ⌜ IsService (now contacts) «contact_count» (now lights) (now lefts) × GoodAsk ask × InPlan (served (now contacts) «contact_count» (now lights) (now lefts)) (no .0) × TimeWord ready ⌝ }
-    ensures { λ t. ⌜ (t ≡ true → NotLater (whenWord there) (behind (networkOf (served (now (contacts .entry)) «contact_count» (now (lights .entry)) (now (lefts .entry))) ask) (no .0) (whenWord ready))) ⌝ }
+fn is_late(pass: Contact, ready: Millis, there: Millis) -> bool
+    ensures { λ t. ⌜ (t ≡ true → LateBy pass (ready .0) (there .0)) ⌝ }
 {
-    if there <= ready {
+    if there.0 <= ready.0 {
         return true;
     }
-    let c = contact_numbered(contacts, no);
-    if c.end.0 < ready {
+    if pass.end.0 < ready.0 {
         return true;
     }
-    there <= c.start.0
+    there.0 <= pass.start.0
 }
 
-// One contact tried: the node that it is to may be reached earlier by it, in row k + 1, where `ready` is the
-// word of the node that it is from, in row k.
+// One contact tried: the node that it is to may be reached earlier by it, in row k + 1, where `ready` is when
+// the file is at the node that it is from, as row k has it.
 fn try_contact(
     contacts: &[u64],
     contact_count: usize,
@@ -120,33 +79,25 @@ fn try_contact(
     words: &mut [u64],
     k: usize,
     no: ContactNo,
-    ready: u64,
+    ready: Millis,
 )
-    requires { ⌜ IsService (now contacts) «contact_count» (now lights) (now lefts) × GoodAsk ask × InPlan (served (now contacts) «contact_count» (now lights) (now lefts)) (no .0) × Each TimeWord (now words) × ((k + 2) * mostNodes ≤ length (now words)) × (ready ≡ getD (rowOf (now words) k) (networkOf (served (now contacts) «contact_count» (now lights) (now lefts)) ask .from (no .0)) 0) ⌝ }
+    requires { ⌜ IsService (now contacts) «contact_count» (now lights) (now lefts) × GoodAsk ask × InPlan (served (now contacts) «contact_count» (now lights) (now lefts)) (no .0) × Each TimeWord (now words) × ((k + 2) * mostNodes ≤ length (now words)) × (ready .0 ≡ getD (rowOf (now words) k) (networkOf (served (now contacts) «contact_count» (now lights) (now lefts)) ask .from (no .0)) 0) ⌝ }
     ensures { λ _. ⌜ Layered (now (words .entry)) (now (words .exit)) k (relax (networkOf (served (now (contacts .entry)) «contact_count» (now (lights .entry)) (now (lefts .entry))) ask) (layerOf (now (words .entry)) k) (no .0) (layerOf (now (words .entry)) (k + 1))) ⌝ }
 {
-    let to = ends_of(contacts, contact_count, lights, lefts, no).to;
+    let pass = contact_numbered(contacts, no);
+    let to = pass.to;
     let next = k + 1;
     let there = get(words, next, to);
-    if is_late(
-        contacts,
-        contact_count,
-        lights,
-        lefts,
-        ask,
-        no,
-        ready,
-        there,
-    ) {
+    if is_late(pass, ready, there) {
         return;
     }
     let arrival = arrive(contacts, contact_count, lights, lefts, ask, no, ready);
-    if arrival < there {
+    if arrival.0 < there.0 {
         put(words, next, to, arrival);
     }
 }
 
-// The contacts from node v tried, along their list.
+// The contacts from the node tried, along their list.
 fn try_from(
     contacts: &[u64],
     contact_count: usize,
@@ -157,13 +108,13 @@ fn try_from(
     k: usize,
     heads: &[u16],
     nexts: &[u16],
-    v: usize,
+    node: NodeNo,
 )
-    requires { ⌜ IsService (now contacts) «contact_count» (now lights) (now lefts) × GoodAsk ask × Each TimeWord (now words) × ((k + 2) * mostNodes ≤ length (now words)) × Listed (now contacts) «contact_count» (now heads) (now nexts) × (v < mostNodes) ⌝ }
-    ensures { λ _. ⌜ Tried (networkOf (served (now (contacts .entry)) «contact_count» (now (lights .entry)) (now (lefts .entry))) ask) (now (words .entry)) (now (words .exit)) k (λ c. networkOf (served (now (contacts .entry)) «contact_count» (now (lights .entry)) (now (lefts .entry))) ask .from c ≡ v) ⌝ }
+    requires { ⌜ IsService (now contacts) «contact_count» (now lights) (now lefts) × GoodAsk ask × Each TimeWord (now words) × ((k + 2) * mostNodes ≤ length (now words)) × Listed (now contacts) «contact_count» (now heads) (now nexts) × IsNode node ⌝ }
+    ensures { λ _. ⌜ Tried (networkOf (served (now (contacts .entry)) «contact_count» (now (lights .entry)) (now (lefts .entry))) ask) (now (words .entry)) (now (words .exit)) k (λ c. networkOf (served (now (contacts .entry)) «contact_count» (now (lights .entry)) (now (lefts .entry))) ask .from c ≡ node .0 - 1) ⌝ }
 {
-    let ready = get(words, k, v);
-    let mut i = first_from(heads, v);
+    let ready = get(words, k, node);
+    let mut i = first_from(heads, node);
     while i < contact_count {
         let number = i + 1;
         let no = ContactNo(number as u64);
@@ -195,13 +146,13 @@ fn try_changed(
     k: usize,
     heads: &[u16],
     nexts: &[u16],
-    v: usize,
+    node: NodeNo,
 ) -> bool
-    requires { ⌜ IsService (now contacts) «contact_count» (now lights) (now lefts) × GoodAsk ask × Each TimeWord (now words) × ((k + 2) * mostNodes ≤ length (now words)) × Listed (now contacts) «contact_count» (now heads) (now nexts) × (v < mostNodes) ⌝ }
+    requires { ⌜ IsService (now contacts) «contact_count» (now lights) (now lefts) × GoodAsk ask × Each TimeWord (now words) × ((k + 2) * mostNodes ≤ length (now words)) × Listed (now contacts) «contact_count» (now heads) (now nexts) × IsNode node ⌝ }
     requires { ⌜ Older (networkOf (served (now contacts) «contact_count» (now lights) (now lefts)) ask) (now words) old k × ((u : ℕ) → NotLater (getD (layerOf (now words) (k + 1)) u never) (getD (layerOf (now words) k) u never)) ⌝ }
-    ensures { λ t. ⌜ Tried (networkOf (served (now (contacts .entry)) «contact_count» (now (lights .entry)) (now (lefts .entry))) ask) (now (words .entry)) (now (words .exit)) k (λ c. networkOf (served (now (contacts .entry)) «contact_count» (now (lights .entry)) (now (lefts .entry))) ask .from c ≡ v) × (t ≡ false → now (words .exit) ≡ now (words .entry)) ⌝ }
+    ensures { λ t. ⌜ Tried (networkOf (served (now (contacts .entry)) «contact_count» (now (lights .entry)) (now (lefts .entry))) ask) (now (words .entry)) (now (words .exit)) k (λ c. networkOf (served (now (contacts .entry)) «contact_count» (now (lights .entry)) (now (lefts .entry))) ask .from c ≡ node .0 - 1) × (t ≡ false → now (words .exit) ≡ now (words .entry)) ⌝ }
 {
-    if get(words, old, v) == get(words, k, v) {
+    if get(words, old, node).0 == get(words, k, node).0 {
         return false;
     }
     try_from(
@@ -214,7 +165,7 @@ fn try_changed(
         k,
         heads,
         nexts,
-        v,
+        node,
     );
     true
 }
@@ -237,8 +188,9 @@ pub fn try_all(
     ensures { λ t. ⌜ Layered (now (words .entry)) (now (words .exit)) k (relaxed (networkOf (served (now (contacts .entry)) «contact_count» (now (lights .entry)) (now (lefts .entry))) ask) (layerOf (now (words .entry)) k) «contact_count») × (t ≡ true → now (words .exit) ≡ now (words .entry)) ⌝ }
 {
     let mut same = true;
-    let mut v: usize = 0;
-    while v < NODES {
+    let mut tried: u64 = 0;
+    while tried < MOST_NODES {
+        tried += 1;
         let changed = try_changed(
             contacts,
             contact_count,
@@ -250,12 +202,11 @@ pub fn try_all(
             k,
             heads,
             nexts,
-            v,
+            NodeNo(tried),
         );
         if changed {
             same = false;
         }
-        v += 1;
     }
     same
 }

@@ -3,8 +3,9 @@ use crate::linking::fill;
 use crate::linking::narrow;
 use crate::linking::wide;
 use plan::contact_row;
+use units::NodeNo;
 ghost use mathlib.Core.Path.{_≡_};
-ghost use Prim.Native.Nat.{_+_, _*_, _≤_, _<_};
+ghost use Prim.Native.Nat.{_+_, _-_, _*_, _≤_, _<_};
 ghost use lib.ListN.{length, getD};
 ghost use Rattle.units.specs.Limits.{mostNodes, IsNode};
 ghost use Rattle.plan.specs.Tables.{words, contactAt};
@@ -35,10 +36,11 @@ pub fn link_from(contacts: &[u64], n: usize, heads: &mut [u16], nexts: &mut [u16
     }
 }
 
-// The first contact from node v, counted from 0.
-pub fn first_from(heads: &[u16], v: usize) -> usize
-    requires { ⌜ v < length (now heads) ⌝ }
-    ensures { λ r. ⌜ r ≡ getD (now (heads .entry)) v 0 ⌝ }
+// The row of the first contact from that node.
+pub fn first_from(heads: &[u16], node: NodeNo) -> usize
+    requires { ⌜ IsNode node × (length (now heads) ≡ mostNodes) ⌝ }
+    ensures { λ r. ⌜ r ≡ getD (now (heads .entry)) (node .0 - 1) 0 ⌝ }
 {
-    wide(heads[v])
+    let at = (node.0 - 1) as usize;
+    wide(heads[at])
 }

@@ -1,158 +1,96 @@
--- What the code of `route` knows, once the layers are filled.
---     delivered-is      the word of the destination in the last row says the delivery
---     route-none, route-late, route-best      the answer, by the tests in their order
---     count-is          the first row that has that word is the fewest contacts; when-injective, two words that say the same are the same
---     route-serves      the answer over the tables that `serve` filled
---     chain-named, chain-some, chain-front      the chain chosen: its numbers name contacts, it has some, and it stands in front
+-- What the code of `route` knows, once a chain is found or none.
+--     answer-none, answer-best      the answer, for each that can be found
+--     chain-counted, chain-named, chain-some      the chain found: it stands in front, its numbers name contacts, and it has some
+--     route-serves                  the answer over the tables that `serve` filled
 -- Assumes nothing.
+use mathlib.Core.Bool.{Bool, true, false}
 use mathlib.Core.List.{List, _++_}
-use mathlib.Core.Logic.{⊎-elim}
 use mathlib.Core.Path.{_≡_, sym, ap, _∙_, subst}
-use Prim.Native.Nat.{ℕ, _+_, _*_, _≤_, _<_}
-use native.Mathlib.Decide.{decLe}
-use native.Mathlib.Nat.{le-refl, mul-le-mul-right}
+use Prim.Native.Nat.{ℕ, _≤_}
 use native.Mathlib.Omega.{arith}
-use borrow.Author.Tests.{lt-ltb, le-ltb}
-use lib.ListN.{length, getD, take, drop}
+use lib.Dec.{ltb}
+use lib.ListN.{length, take, drop}
 use lib.Seq.{take-at}
 use Rattle.units.specs.declared.Ask.{Ask}
-use Rattle.units.specs.declared.Refusal.the-variants.{NoChain, TooLate}
-use Rattle.units.specs.Limits.{lastTime, mostLight, mostNodes, mostChain}
+use Rattle.units.specs.declared.Millis.{Millis}
+use Rattle.units.specs.declared.Refusal.{Refusal}
+use Rattle.units.specs.declared.Refusal.the-variants.{TooLate}
 use Rattle.plan.specs.Plan.{Each}
 use Rattle.service.specs.Service.{Service, Sound, InPlan}
-use Rattle.walk.specs.declared.figures.Figures.{Figures}
 use Rattle.timing.specs.Chain.{Allowed}
+use Rattle.walk.specs.declared.figures.Figures.{Figures}
 use Rattle.walk.specs.Model.{figuresOf}
 use Rattle.walk.specs.Walk.{GoodAsk}
 use Rattle.walk.proofs.LastCallCode.{carries-named}
-use Rattle.network.specs.Model.{earliest, delivery, fewest, chosen}
-use Rattle.network.specs.Network.{When, at, never, Network}
-use Rattle.network.proofs.Theorems.{chosen-best, fewest-is, fewest-length}
-use Rattle.layers.specs.Bridge.{networkOf}
+use Rattle.network.specs.Model.{delivery, chosen}
+use Rattle.network.specs.Network.{When, at, never}
+use Rattle.network.proofs.Theorems.{chosen-best}
+use Rattle.layers.specs.Bridge.{networkOf, goal}
+use Rattle.layers.proofs.NetworkLaws.{network-laws, goal-node, goal-apart}
+use Rattle.choice.specs.Model.{chainOf}
+use Rattle.search.specs.declared.answer.Found.{Found}
+use Rattle.search.specs.declared.answer.Found.the-variants.{Chain, Nothing}
 use Rattle.search.specs.declared.answer.Routed.{Routed}
 use Rattle.search.specs.declared.answer.Routed.the-variants.{Best, Refused}
-use Rattle.layers.specs.Bridge.{goal}
-use Rattle.choice.specs.Model.{chainOf}
-use Rattle.search.specs.Model.{answerOf, chainAfter, routeModel, routeAfter}
-use Rattle.layers.specs.Words.{neverWord, whenWord, TimeWord, rowOf, Filled, FirstRow}
+use Rattle.search.specs.Model.{pickFound, foundOf, findModel, answerOf, chainAfter, routeModel, routeAfter, Holds}
 use Rattle.search.proofs.Chains.{allowed-reaches}
-use Rattle.layers.proofs.NetworkLaws.{network-laws, goal-node, goal-apart}
-use Rattle.layers.proofs.RowLaws.{when-never, when-below, when-time, time-most, time-row, getD-layer}
 
-when-injective : (a b : ℕ) → a ≤ neverWord → b ≤ neverWord → whenWord a ≡ whenWord b → a ≡ b
-when-injective a b ha hb e = go (decLe neverWord a) (decLe neverWord b)
+pub answer-none : (p : Service) (ask : Ask) (found : Found) (why : Refusal) → found ≡ findModel p ask → found ≡ Nothing why → Refused why ≡ routeModel p ask
+unfolding routeModel answerOf
+answer-none p ask found why e ew = ap (answerOf p ask) (sym ew ∙ e)
+
+-- a chain is found at the delivery, with all its contacts
+found-at : (p : Service) (ask : Ask) (w : When) (d : Millis) (count : ℕ) → foundOf p ask w ≡ Chain d count
+    → (w ≡ at (d .0)) × (count ≡ length (chainOf p ask (d .0)))
+unfolding foundOf
+found-at p ask (at r) d count e = go (ltb r (ask .deadline .0)) e
   where
-    go : Dec (neverWord ≤ a) → Dec (neverWord ≤ b) → a ≡ b
-    go (yes k) (yes l) = omega arith
-    go (yes k) (no l) =
-        let na : whenWord a ≡ never = when-never a (omega arith) in
-        let tb : whenWord b ≡ at b = when-below b (omega arith) in
-        let z : _≡_ {A = ℕ} 0 1 = cc in
-        absurd (omega arith)
-    go (no k) (yes l) =
-        let ta : whenWord a ≡ at a = when-below a (omega arith) in
-        let nb : whenWord b ≡ never = when-never b (omega arith) in
-        let z : _≡_ {A = ℕ} 0 1 = cc in
-        absurd (omega arith)
-    go (no k) (no l) =
-        let ta : whenWord a ≡ at a = when-below a (omega arith) in
-        let tb : whenWord b ≡ at b = when-below b (omega arith) in
-        cc
+    go : (early : Bool) → pickFound early (Chain (record { 0 = r }) (length (chainOf p ask r))) (Nothing TooLate) ≡ Chain d count
+        → (at r ≡ at (d .0)) × (count ≡ length (chainOf p ask (d .0)))
+    go true e =
+        let q : r ≡ d .0 = cc in
+        let n : length (chainOf p ask r) ≡ count = cc in
+        (ap at q, sym n ∙ ap (λ (t : ℕ). length (chainOf p ask t)) q)
+    go false e = let z : _≡_ {A = ℕ} 0 1 = cc in absurd (omega arith)
+found-at p ask never d count e = let z : _≡_ {A = ℕ} 0 1 = cc in absurd (omega arith)
 
--- a row up to the last lies inside the words
-pub row-inside : (N : Network) (words : List ℕ) (last k : ℕ) → Filled N words last → k ≤ last → (k + 1) * mostNodes ≤ length words
-row-inside N words last k f h =
-    let fewer : k + 1 ≤ mostNodes = omega (arith, f .most) in
-    subst (λ (n : ℕ). (k + 1) * mostNodes ≤ n) (sym (f .long)) (mul-le-mul-right mostNodes fewer)
+module _ (p : Service) (valid : Sound p) (ask : Ask) (good : GoodAsk ask) (differ : ask .source .0 ≡ ask .destination .0 → ⊥) (found : Found) (d : Millis) (count : ℕ)
+    (chain : List ℕ) (ef : found ≡ findModel p ask) (ed : found ≡ Chain d count) (held : Holds p ask chain) where
+  is-chain : findModel p ask ≡ Chain d count
+  is-chain = sym ef ∙ ed
 
-module _ (p : Service) (valid : Sound p) (ask : Ask) (good : GoodAsk ask) (differ : ask .source .0 ≡ ask .destination .0 → ⊥) (words : List ℕ) (last : ℕ)
-    (filled : Filled (networkOf p ask) words last) where
-  abbrev N : Network
-  N = networkOf p ask
+  told : (delivery (networkOf p ask) (goal ask) ≡ at (d .0)) × (count ≡ length (chainOf p ask (d .0)))
+  unfolding findModel
+  told = found-at p ask (delivery (networkOf p ask) (goal ask)) d count is-chain
 
-  goal-below : goal ask < mostNodes
-  goal-below = omega (arith, good .destination-node)
+  chain-long : length (chainOf p ask (d .0)) ≡ count
+  chain-long = sym (told .1)
 
-  -- when a node is reached over at most k contacts
-  row-says : (k : ℕ) → k ≤ last → earliest N k (goal ask) ≡ whenWord (getD (rowOf words k) (goal ask) 0)
-  unfolding earliest
-  row-says k h =
-      ap (λ (l : List When). getD l (goal ask) never) (sym (filled .rows k h))
-      ∙ getD-layer words k (goal ask) (row-inside N words last k filled h) goal-below
+  chain-allowed : Allowed p ask (chainOf p ask (d .0)) (d .0)
+  unfolding chainOf
+  chain-allowed =
+      allowed-reaches p valid ask good differ (chosen (networkOf p ask) (goal ask) (d .0)) (d .0) .1
+      (chosen-best (networkOf p ask) (network-laws p valid ask good) (goal ask) (d .0) (goal-node p ask good) (goal-apart p ask good differ) (told .0) .reaches)
 
-  module _ (d : ℕ) (ed : d ≡ getD (rowOf words last) (goal ask) 0) where
-    pub delivered-is : delivery N (goal ask) ≡ whenWord d
-    unfolding delivery earliest networkOf
-    delivered-is =
-        ap (λ (l : List When). getD l (goal ask) never) (filled .settled) ∙ row-says last (le-refl last) ∙ ap whenWord (sym ed)
+  stands : chain ≡ chainOf p ask (d .0) ++ drop count (held .0)
+  unfolding routeAfter chainAfter
+  stands = held .2 ∙ ap (chainAfter p ask (held .0)) is-chain
 
-    pub delivered-word : TimeWord d
-    delivered-word = subst TimeWord (sym ed) (time-row words last (goal ask) (filled .timed) (row-inside N words last last filled (le-refl last)) goal-below)
+  chain-front : take count chain ≡ chainOf p ask (d .0)
+  chain-front = ap (take count) stands ∙ take-at (chainOf p ask (d .0)) (drop count (held .0)) count chain-long
 
-    pub route-none : (before : List ℕ) → d ≡ neverWord → (Refused NoChain ≡ routeModel p ask) × (before ≡ routeAfter p ask before)
-    unfolding routeModel routeAfter answerOf chainAfter
-    route-none before e =
-        let is : delivery N (goal ask) ≡ never = delivered-is ∙ when-never d e in
-        (rw is, rw is)
+  pub chain-counted : count ≡ length (take count chain)
+  chain-counted = sym (ap length chain-front ∙ chain-long)
 
-    module _ (some : d ≡ neverWord → ⊥) where
-      pub delivered-most : d ≤ lastTime + mostLight
-      delivered-most = ⊎-elim (λ h. h) (λ e. absurd (some e)) delivered-word
+  pub chain-named : Each (InPlan p) (take count chain)
+  chain-named = subst (Each (InPlan p)) (sym chain-front) (carries-named p ask (chain-allowed .carried))
 
-      pub delivered-at : delivery N (goal ask) ≡ at d
-      delivered-at = delivered-is ∙ when-time d delivered-most
+  pub chain-some : 1 ≤ length (take count chain)
+  chain-some = subst (λ (l : List ℕ). 1 ≤ length l) (sym chain-front) (chain-allowed .some-contact)
 
-      pub route-late : (before : List ℕ) → ask .deadline .0 ≤ d → (Refused TooLate ≡ routeModel p ask) × (before ≡ routeAfter p ask before)
-      unfolding routeModel routeAfter answerOf chainAfter
-      route-late before h = (rw (delivered-at, le-ltb d (ask .deadline .0) h), rw (delivered-at, le-ltb d (ask .deadline .0) h))
-
-      -- a row's word against the last row's
-      row-word : (k : ℕ) → k ≤ last → getD (rowOf words k) (goal ask) 0 ≤ neverWord
-      row-word k h = time-most (getD (rowOf words k) (goal ask) 0) (time-row words k (goal ask) (filled .timed) (row-inside N words last k filled h) goal-below)
-
-      module _ (count : ℕ) (first : FirstRow words last (goal ask) d count) where
-        pub count-is : count ≡ fewest N (goal ask)
-        unfolding networkOf
-        count-is =
-            sym
-            (fewest-is N (goal ask) count (omega (arith, first .most, filled .most))
-            (row-says count (first .most) ∙ ap whenWord (first .has) ∙ sym delivered-is)
-            (λ j h e.
-            first .none-before j h
-            (when-injective (getD (rowOf words j) (goal ask) 0) d (row-word j (omega (arith, first .most))) (time-most d delivered-word)
-            (sym (row-says j (omega (arith, first .most))) ∙ e ∙ delivered-is))))
-
-        pub count-room : count ≤ mostChain
-        unfolding mostNodes mostChain
-        count-room = omega (arith, first .most, filled .most)
-
-        pub chain-long : length (chainOf p ask d) ≡ count
-        unfolding chainOf
-        chain-long = fewest-length N (goal ask) d ∙ sym count-is
-
-        chain-allowed : Allowed p ask (chainOf p ask d) d
-        unfolding chainOf
-        chain-allowed =
-            allowed-reaches p valid ask good differ (chosen N (goal ask) d) d .1
-            (chosen-best N (network-laws p valid ask good) (goal ask) d (goal-node p ask good) (goal-apart p ask good differ) delivered-at .reaches)
-
-        module _ (entry exit : List ℕ) (written : exit ≡ chainOf p ask d ++ drop count entry) where
-          pub chain-front : take count exit ≡ chainOf p ask d
-          chain-front = ap (take count) written ∙ take-at (chainOf p ask d) (drop count entry) count chain-long
-
-          pub chain-named : Each (InPlan p) (take count exit)
-          chain-named = subst (Each (InPlan p)) (sym chain-front) (carries-named p ask (chain-allowed .carried))
-
-          pub chain-some : 1 ≤ length (take count exit)
-          chain-some = subst (λ (l : List ℕ). 1 ≤ length l) (sym chain-front) (chain-allowed .some-contact)
-
-          pub route-best : (f : Figures) → d < ask .deadline .0 → f ≡ figuresOf p ask (take count exit) d
-              → (Best f count ≡ routeModel p ask) × (exit ≡ routeAfter p ask entry)
-          unfolding routeModel routeAfter answerOf chainAfter
-          route-best f h ef = (
-            rw (delivered-at, lt-ltb d (ask .deadline .0) h, ef, chain-front, chain-long),
-            written ∙ rw (delivered-at, lt-ltb d (ask .deadline .0) h, chain-long),
-          )
+  pub answer-best : (f : Figures) → f ≡ figuresOf p ask (take count chain) (d .0) → Best f count ≡ routeModel p ask
+  unfolding routeModel answerOf
+  answer-best f e = rw (is-chain, e, chain-front)
 
 -- the answer over a service that is the plan's
 pub route-serves : (s p : Service) (ask : Ask) (entry exit : List ℕ) (r : Routed) → s ≡ p → (r ≡ routeModel s ask) × (exit ≡ routeAfter s ask entry)

@@ -42,8 +42,10 @@ use Rattle.network.proofs.Theorems.{chosen-best, never-unreached}
 use Rattle.layers.specs.Bridge.{networkOf}
 use Rattle.layers.specs.Bridge.{goal}
 use Rattle.choice.specs.Model.{chainOf}
-use Rattle.search.specs.Model.{pickRouted, pickList, answerOf, chainAfter, routeModel, routeAfter}
+use Rattle.search.specs.Model.{pickFound, foundOf, findModel, answerOf, chainAfter, routeModel, routeAfter}
 use Rattle.search.specs.Route.{IsBest, RoutesPlan, no-chain, too-late, best, Routes, short-chain, no-plan, bad-ask, same-node, routed}
+use Rattle.search.specs.declared.answer.Found.{Found}
+use Rattle.search.specs.declared.answer.Found.the-variants.{Chain, Nothing}
 use Rattle.search.specs.declared.answer.Routed.{Routed}
 use Rattle.search.specs.declared.answer.Routed.the-variants.{Best, Refused}
 use Rattle.search.proofs.BestLaws.{is-best-best, is-best-unique, is-best-short}
@@ -164,16 +166,16 @@ module _ (p : Service) (ask : Ask) (before : List ℕ) (valid : Sound p) (good :
       is-best-best p valid ask good differ _ r .1
       (chosen-best (networkOf p ask) (network-laws p valid ask good) (goal ask) r (goal-node p ask good) (goal-apart p ask good differ) e)
 
-  routes-at : (r : ℕ) → delivery (networkOf p ask) (goal ask) ≡ at r → (early : Bool) → Verdict (r < ask .deadline .0) early
-      → RoutesPlan p ask before (pickRouted early (Best (figuresOf p ask (chainOf p ask r) r) (length (chainOf p ask r))) (Refused TooLate))
-      (pickList early (chainOf p ask r ++ drop (length (chainOf p ask r)) before) before)
-  unfolding figuresOf
-  routes-at r e _ (holds h) = let b = chosen-is-best r e in best b (figures-in-time (chainOf p ask r) r (b .allowed) h)
-  routes-at r e _ (fails h) = let b = chosen-is-best r e in too-late (b .allowed) (λ other s a. omega (arith, b .none-earlier other s a))
+  routes-at : (r : ℕ) → delivery (networkOf p ask) (goal ask) ≡ at r → (early : Bool) → Verdict (r < ask .deadline .0) early → (found : Found)
+      → found ≡ pickFound early (Chain (record { 0 = r }) (length (chainOf p ask r))) (Nothing TooLate)
+      → RoutesPlan p ask before (answerOf p ask found) (chainAfter p ask before found)
+  unfolding answerOf chainAfter figuresOf
+  routes-at r e _ (holds h) found ef = let b = chosen-is-best r e in rw ef (best b (figures-in-time (chainOf p ask r) r (b .allowed) h))
+  routes-at r e _ (fails h) found ef = let b = chosen-is-best r e in rw ef (too-late (b .allowed) (λ other s a. omega (arith, b .none-earlier other s a)))
 
-  routes-when : (w : When) → delivery (networkOf p ask) (goal ask) ≡ w → RoutesPlan p ask before (answerOf p ask w) (chainAfter p ask before w)
-  unfolding answerOf chainAfter
-  routes-when (at r) e = routes-at r e (ltb r (ask .deadline .0)) (tells-lt r (ask .deadline .0))
+  routes-when : (w : When) → delivery (networkOf p ask) (goal ask) ≡ w → RoutesPlan p ask before (answerOf p ask (foundOf p ask w)) (chainAfter p ask before (foundOf p ask w))
+  unfolding foundOf answerOf chainAfter
+  routes-when (at r) e = routes-at r e (ltb r (ask .deadline .0)) (tells-lt r (ask .deadline .0)) _ refl
   routes-when never e =
       no-chain
       (λ chain s a.
@@ -181,5 +183,5 @@ module _ (p : Service) (ask : Ask) (before : List ℕ) (valid : Sound p) (good :
       (allowed-reaches p valid ask good differ chain s .0 a))
 
   pub route-model-routes : RoutesPlan p ask before (routeModel p ask) (routeAfter p ask before)
-  unfolding routeModel routeAfter
+  unfolding routeModel routeAfter findModel
   route-model-routes = routes-when (delivery (networkOf p ask) (goal ask)) refl

@@ -1,4 +1,5 @@
-// What `route` answers.
+// What `route` answers, and what is found before the figures are worked out.
+use units::Millis;
 use units::Refusal;
 use walk::Figures;
 
@@ -6,4 +7,10 @@ use walk::Figures;
 pub enum Routed {
     Best(Figures, usize),
     Refused(Refusal),
+}
+
+// When the best chain delivers the file and how many contacts it has, or why there is none.
+pub enum Found {
+    Chain(Millis, usize),
+    Nothing(Refusal),
 }

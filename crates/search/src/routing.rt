@@ -1,17 +1,13 @@
 // The public call `route`: the best chain for an ask.
+use crate::answer::Found;
 use crate::answer::Routed;
-use choice::choose;
-use choice::first_row;
-use layers::NEVER;
-use layers::fill;
-use layers::get;
+use crate::finding::find_chain;
 use service::BLANK_LEFT;
 use service::BLANK_LIGHT;
 use service::serve;
 use units::Ask;
 use units::MOST_CHAIN;
 use units::MOST_CONTACTS;
-use units::Millis;
 use units::Refusal;
 use validity::is_plan;
 use walk::figures_of;
@@ -24,78 +20,38 @@ ghost use Rattle.plan.specs.Tables.{IsPlan, planOf};
 ghost use Rattle.service.specs.Service.{serviceOf, unused};
 ghost use Rattle.service.specs.Tables.{served, IsService};
 ghost use Rattle.walk.specs.Walk.{GoodAsk};
-ghost use Rattle.search.specs.Model.{routeModel, routeAfter};
+ghost use Rattle.search.specs.Model.{findModel, routeModel, routeAfter, Holds};
 ghost use Rattle.search.specs.Route.{Routes};
-ghost use Rattle.layers.specs.Words.{blankWords};
 
-// The answer for a plan as it serves the ask, and a good ask between two nodes, worked out in lent words.
-fn route_in(
+// The answer for what was found, over a plan as it serves the ask and a good ask between two nodes: the
+// figures of the chain that stands in the lent places, or why there is none.
+pub fn answer_found(
     contacts: &[u64],
     contact_count: usize,
     lights: &[u32],
     lefts: &[u64],
     ask: Ask,
-    words: &mut [u64],
-    chain: &mut [u64],
+    chain: &[u64],
+    found: Found,
 ) -> Routed
-    requires { ⌜ IsService (now contacts) «contact_count» (now lights) (now lefts) × GoodAsk ask × (ask .source .0 ≡ ask .destination .0 → ⊥) × (now words ≡ blankWords) × (mostChain ≤ length (now chain)) ⌝ }
-    ensures { λ r. ⌜ (r ≡ routeModel (served (now (contacts .entry)) «contact_count» (now (lights .entry)) (now (lefts .entry))) ask) × (now (chain .exit) ≡ routeAfter (served (now (contacts .entry)) «contact_count» (now (lights .entry)) (now (lefts .entry))) ask (now (chain .entry))) ⌝ }
+    requires { ⌜ IsService (now contacts) «contact_count» (now lights) (now lefts) × GoodAsk ask × (ask .source .0 ≡ ask .destination .0 → ⊥) × (found ≡ findModel (served (now contacts) «contact_count» (now lights) (now lefts)) ask) × Holds (served (now contacts) «contact_count» (now lights) (now lefts)) ask (now chain) ⌝ }
+    ensures { λ r. ⌜ r ≡ routeModel (served (now (contacts .entry)) «contact_count» (now (lights .entry)) (now (lefts .entry))) ask ⌝ }
 {
-    let last = fill(contacts, contact_count, lights, lefts, ask, words);
-    let goal = (ask.destination.0 - 1) as usize;
-    let delivered = get(words, last, goal);
-    if delivered == NEVER {
-        return Routed::Refused(Refusal::NoChain);
+    match found {
+        Found::Chain(delivered, count) => {
+            let figures = figures_of(
+                contacts,
+                contact_count,
+                lights,
+                lefts,
+                ask,
+                &chain[..count],
+                delivered,
+            );
+            Routed::Best(figures, count)
+        }
+        Found::Nothing(why) => Routed::Refused(why),
     }
-    if ask.deadline.0 <= delivered {
-        return Routed::Refused(Refusal::TooLate);
-    }
-    let count = first_row(words, last, goal, delivered);
-    choose(
-        contacts,
-        contact_count,
-        lights,
-        lefts,
-        ask,
-        words,
-        count,
-        delivered,
-        chain,
-    );
-    let figures = figures_of(
-        contacts,
-        contact_count,
-        lights,
-        lefts,
-        ask,
-        &chain[..count],
-        Millis(delivered),
-    );
-    Routed::Best(figures, count)
-}
-
-// The same, with the words of 64 layers of 64 nodes on the stack.
-pub fn route_served(
-    contacts: &[u64],
-    contact_count: usize,
-    lights: &[u32],
-    lefts: &[u64],
-    ask: Ask,
-    chain: &mut [u64],
-) -> Routed
-    requires { ⌜ IsService (now contacts) «contact_count» (now lights) (now lefts) × GoodAsk ask × (ask .source .0 ≡ ask .destination .0 → ⊥) × (mostChain ≤ length (now chain)) ⌝ }
-    ensures { λ r. ⌜ (r ≡ routeModel (served (now (contacts .entry)) «contact_count» (now (lights .entry)) (now (lefts .entry))) ask) × (now (chain .exit) ≡ routeAfter (served (now (contacts .entry)) «contact_count» (now (lights .entry)) (now (lefts .entry))) ask (now (chain .entry))) ⌝ }
-{
-    let mut words = [NEVER; 4096];
-    route_in(
-        contacts,
-        contact_count,
-        lights,
-        lefts,
-        ask,
-        &mut words,
-        chain,
-    )
 }
 
 // The answer for a valid plan and a good ask between two nodes, by way of a table of light times and of
@@ -114,7 +70,8 @@ fn route_through(
     ensures { λ r. ⌜ (r ≡ routeModel (serviceOf (planOf (now (contacts .entry)) «contact_count» (now (ranges .entry)) «range_count») unused) ask) × (now (chain .exit) ≡ routeAfter (serviceOf (planOf (now (contacts .entry)) «contact_count» (now (ranges .entry)) «range_count») unused) ask (now (chain .entry))) ⌝ }
 {
     serve(contacts, contact_count, ranges, range_count, lights, lefts);
-    route_served(contacts, contact_count, lights, lefts, ask, chain)
+    let found = find_chain(contacts, contact_count, lights, lefts, ask, chain);
+    answer_found(contacts, contact_count, lights, lefts, ask, chain, found)
 }
 
 // The same, with that table on the stack.

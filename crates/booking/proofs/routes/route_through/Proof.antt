@@ -15,8 +15,8 @@ serve-booked-requires c κs =
     let pre = c .before .before .before .before .before .before .before .before .before .pre in
     (pre .0 .plan, pre .0 .its-book, pre .1, pre .2)
 
-route-served-requires : tie.Need-route-served-requires
-route-served-requires c κs =
+find-chain-requires : tie.Need-find-chain-requires
+find-chain-requires c κs =
     let at-serve = c .before .before .before .before .before .before .before in
     let start = at-serve .before .before .before .before .before .before .before .before .before .before in
     let filled = at-serve .serve-booked .ensures in
@@ -27,6 +27,23 @@ route-served-requires c κs =
       good .good-ask,
       good .differ,
       start .pre .3,
+    )
+
+answer-found-requires : tie.Need-answer-found-requires
+answer-found-requires c κs =
+    let at-find = c .before .before .before .before .before in
+    let at-serve = at-find .before .before .before .before .before .before .before .before in
+    let start = at-serve .before .before .before .before .before .before .before .before .before .before in
+    let filled = at-serve .serve-booked .ensures in
+    let good = start .pre .0 in
+    let few = contacts-counted _ _ _ _ (good .plan) in
+    let found = at-find .find-chain .ensures in (
+      is-service _ _ _ _ _ _ (used (bookOf (start .args .book .now) (start .args .chains .now)) (start .args .class)) (good .plan)
+          (omega (arith, few, start .pre .1, filled .1)) (omega (arith, few, start .pre .2, filled .2)) (filled .0),
+      good .good-ask,
+      good .differ,
+      found .0,
+      (_, start .pre .3, found .1),
     )
 
 same-length : tie.Need-same-length
@@ -40,9 +57,10 @@ same-length-3 c = search needs
 
 returns : tie.Need-returns
 returns c =
-    let at-serve = c .before .before .before .before .before .before .before .before .before .before in
-    route-serves _ _ (at-serve .before .before .before .before .before .before .before .before .before .before .args .ask) _ _ _ (at-serve .serve-booked .ensures .0)
-    (c .before .before .route-served .ensures)
+    let at-find = c .before .before .before .before .before .before in
+    let at-serve = at-find .before .before .before .before .before .before .before .before in
+    route-serves _ _ (at-serve .before .before .before .before .before .before .before .before .before .before .args .ask) _ _ _ (at-serve .serve-booked .ensures .0) (c .answer-found .ensures, at-find .find-chain .ensures .1)
 
 pub route-through-spec : {M : Type 1} → statement M
-route-through-spec = tie.close (tie.spec serve-booked-requires route-served-requires same-length same-length-2 same-length-3 returns)
+route-through-spec =
+    tie.close (tie.spec serve-booked-requires find-chain-requires answer-found-requires same-length same-length-2 same-length-3 returns)

@@ -12,10 +12,10 @@ use Rattle.choice.proofs.choice.first_row.Statement.{statement}
 use Rattle.choice.proofs.choice.first_row.Tie as tie
 
 abbrev Inv-loop : tie.InvT-loop
-Inv-loop words last v word k₀ k = (k ≤ last) × ((j : ℕ) → j < k → getD (rowOf words j) v 0 ≡ word → ⊥)
+Inv-loop words last node time k₀ k = (k ≤ last) × ((j : ℕ) → j < k → getD (rowOf words j) (node .0 - 1) 0 ≡ time .0 → ⊥)
 
 abbrev μ-loop : tie.MeasureT-loop
-μ-loop words last v word k₀ k = last - k
+μ-loop words last node time k₀ k = last - k
 
 loop-holds : tie.Need-loop-holds Inv-loop μ-loop
 loop-holds c = (omega arith, below-none _)
@@ -28,8 +28,8 @@ get-requires c κs =
 
 returns : tie.Need-returns Inv-loop μ-loop
 returns c =
-    let inv = c .before .before .before .loop .inv in
-    record { most = inv .0; has = sym (c .before .get .ensures) ∙ c .if1 .taken; none-before = inv .1 }
+    let inv = c .before .before .before .before .before .loop .inv in
+    record { most = inv .0; has = sym (c .before .before .before .get .ensures) ∙ c .if1 .taken; none-before = inv .1 }
 
 add-k : tie.Need-add-k Inv-loop μ-loop
 add-k c = omega arith
@@ -39,8 +39,8 @@ loop-less c = omega arith
 
 loop-again : tie.Need-loop-again Inv-loop μ-loop
 loop-again c =
-    let inv = c .before .before .before .loop .inv in
-    (omega (arith, c .before .before .loop-test .taken), below-more _ _ (inv .1) (λ e. c .if1 .left (c .before .get .ensures ∙ e)))
+    let inv = c .before .before .before .before .before .loop .inv in
+    (omega (arith, c .before .before .before .before .loop-test .taken), below-more _ _ (inv .1) (λ e. c .if1 .left (c .before .before .before .get .ensures ∙ e)))
 
 returns-2 : tie.Need-returns-2 Inv-loop μ-loop
 returns-2 c =

@@ -14,13 +14,13 @@ use Rattle.choice.proofs.choice.lowest_leading.Tie as tie
 use Rattle.service.specs.Tables.{served}
 
 abbrev Inv-loop : tie.InvT-loop
-Inv-loop contacts contact-count lights lefts ask words row v limit tried₀ tried =
+Inv-loop contacts contact-count lights lefts ask words row node limit tried₀ tried =
     (tried ≤ contact-count)
-    × (lowest (networkOf (served contacts contact-count lights lefts) ask) (layerOf words row) v limit
-    ≡ lowestFrom (networkOf (served contacts contact-count lights lefts) ask) (layerOf words row) v limit (tried + 1) (contact-count - tried))
+    × (lowest (networkOf (served contacts contact-count lights lefts) ask) (layerOf words row) (node .0 - 1) (limit .0)
+    ≡ lowestFrom (networkOf (served contacts contact-count lights lefts) ask) (layerOf words row) (node .0 - 1) (limit .0) (tried + 1) (contact-count - tried))
 
 abbrev μ-loop : tie.MeasureT-loop
-μ-loop contacts contact-count lights lefts ask words row v limit tried₀ tried = contact-count - tried
+μ-loop contacts contact-count lights lefts ask words row node limit tried₀ tried = contact-count - tried
 
 loop-holds : tie.Need-loop-holds Inv-loop μ-loop
 loop-holds c = (omega arith, lowest-begins _ _ _ _ _ 0 (contacts-counted _ _ _ _ _))
@@ -31,7 +31,7 @@ add-tried c = omega arith
 is-leading-requires : tie.Need-is-leading-requires Inv-loop μ-loop
 is-leading-requires c κs =
     let pre = c .before .before .before .before .before .before .pre in
-    (pre .0, pre .1, named-in-plan _ _ _ _ _ (omega arith) (omega (arith, c .loop-test .taken)), pre .2, pre .3)
+    (pre .0, pre .1, named-in-plan _ _ _ _ _ (omega arith) (omega (arith, c .loop-test .taken)), pre .2, pre .3, pre .4)
 
 returns : tie.Need-returns Inv-loop μ-loop
 returns c =

@@ -14,22 +14,19 @@ use Rattle.layers.proofs.filling.fill_rows.Statement.{statement}
 use Rattle.layers.proofs.filling.fill_rows.Tie as tie
 
 abbrev Inv-loop : tie.InvT-loop
-Inv-loop contacts contact-count lights lefts ask words₀ heads nexts source old₀ k₀ words old k =
+Inv-loop contacts contact-count lights lefts ask words₀ heads nexts old₀ k₀ words old k =
     (k ≤ 63)
     × RowsTo (networkOf (served contacts contact-count lights lefts) ask) words k
     × Older (networkOf (served contacts contact-count lights lefts) ask) words old k
 
 abbrev μ-loop : tie.MeasureT-loop
-μ-loop contacts contact-count lights lefts ask words₀ heads nexts source old₀ k₀ words old k = 63 - k
-
-sub-source : tie.Need-sub-source Inv-loop μ-loop
-sub-source c = c .before .before .before .before .before .before .before .pre .1 .source-node .least
+μ-loop contacts contact-count lights lefts ask words₀ heads nexts old₀ k₀ words old k = 63 - k
 
 put-requires : tie.Need-put-requires Inv-loop μ-loop
 unfolding mostNodes
 put-requires c κs =
-    let pre = c .before .before .before .before .before .before .before .before .pre in
-    omega (arith, pre .1 .source-node, ap length (pre .2) ∙ length-blank)
+    let pre = c .before .before .before .before .before .before .before .pre in
+    (omega (arith, ap length (pre .2) ∙ length-blank), pre .1 .source-node)
 
 sub-old : tie.Need-sub-old Inv-loop μ-loop
 sub-old c = omega arith
@@ -37,7 +34,7 @@ sub-old c = omega arith
 loop-holds : tie.Need-loop-holds Inv-loop μ-loop
 unfolding mostNodes
 loop-holds c =
-    let pre = c .before .before .before .before .before .before .before .before .before .before .before .pre in
+    let pre = c .before .before .before .before .before .before .before .before .before .before .pre in
     let stored = c .before .before .put .ensures in (
       omega arith,
       rows-begin _ _ (pre .1) _ _ (pre .2) stored,
@@ -52,7 +49,7 @@ unfolding mostNodes
 next-row-requires c κs =
     let at-loop = c .before .before in
     let rows = at-loop .loop .inv .1 in
-    let pre = at-loop .before .before .before .before .before .before .before .before .before .before .before .before .pre in
+    let pre = at-loop .before .before .before .before .before .before .before .before .before .before .before .pre in
     (pre .0, pre .1, rows .timed, omega (arith, rows .long, c .before .loop-test .taken), at-loop .loop .inv .2, pre .3)
 
 add-k : tie.Need-add-k Inv-loop μ-loop
@@ -62,7 +59,7 @@ same-length : tie.Need-same-length Inv-loop μ-loop
 same-length c =
     let at-next = c .before .before .before in
     let at-loop = at-next .before .before .before in
-    let pre = at-loop .before .before .before .before .before .before .before .before .before .before .before .before .pre in
+    let pre = at-loop .before .before .before .before .before .before .before .before .before .before .before .pre in
     at-next .next-row .ensures .0 .long ∙ at-loop .loop .inv .1 .long ∙ sym (ap length (pre .2) ∙ length-blank)
 
 returns : tie.Need-returns Inv-loop μ-loop
@@ -83,7 +80,7 @@ loop-again c =
     let at-next = c .before .before .before in
     let at-test = at-next .before .before in
     let at-loop = at-test .before in
-    let pre = at-loop .before .before .before .before .before .before .before .before .before .before .before .before .pre in
+    let pre = at-loop .before .before .before .before .before .before .before .before .before .before .before .pre in
     let rows = at-loop .loop .inv .1 in
     let next = at-next .next-row .ensures .0 in (
       omega (arith, at-test .loop-test .taken),
@@ -94,7 +91,7 @@ loop-again c =
 same-length-2 : tie.Need-same-length-2 Inv-loop μ-loop
 same-length-2 c =
     let at-loop = c .before in
-    let pre = at-loop .before .before .before .before .before .before .before .before .before .before .before .before .pre in
+    let pre = at-loop .before .before .before .before .before .before .before .before .before .before .before .pre in
     at-loop .loop .inv .1 .long ∙ sym (ap length (pre .2) ∙ length-blank)
 
 returns-2 : tie.Need-returns-2 Inv-loop μ-loop
@@ -110,7 +107,6 @@ fill-rows-spec =
     (tie.spec
     Inv-loop
     μ-loop
-    sub-source
     put-requires
     sub-old
     loop-holds

@@ -2,30 +2,35 @@
 -- Assumes nothing.
 use mathlib.Core.Path.{sym}
 use native.Mathlib.Omega.{arith}
+use borrow.Author.Needs.{needs}
 use Rattle.units.specs.Limits.{mostNodes}
+use Rattle.layers.proofs.NetworkLaws.{node-below}
 use Rattle.layers.proofs.RowLaws.{getD-row}
 use Rattle.layers.proofs.rows.get.Statement.{statement}
 use Rattle.layers.proofs.rows.get.Tie as tie
 
-mul-result : tie.Need-mul-result
-unfolding mostNodes
-mul-result c = omega (arith, c .pre, c .good)
+sub-v : tie.Need-sub-v
+sub-v c = search needs
 
-add-result : tie.Need-add-result
+mul-t6 : tie.Need-mul-t6
 unfolding mostNodes
-add-result c = omega (arith, c .pre, c .good)
+mul-t6 c = omega (arith, c .before .pre, c .before .good)
 
-mul-result-2 : tie.Need-mul-result-2
+add-t7 : tie.Need-add-t7
 unfolding mostNodes
-mul-result-2 c = omega (arith, c .pre, c .good)
+add-t7 c = omega (arith, c .before .pre, c .before .good)
 
-shared-slice-read-result : tie.Need-shared-slice-read-result
+mul-t8 : tie.Need-mul-t8
 unfolding mostNodes
-shared-slice-read-result c = omega (arith, c .before .pre)
+mul-t8 c = omega (arith, c .before .pre, c .before .good)
+
+shared-slice-read-t5 : tie.Need-shared-slice-read-t5
+unfolding mostNodes
+shared-slice-read-t5 c = omega (arith, c .before .before .pre)
 
 returns : tie.Need-returns
 unfolding mostNodes
-returns c = sym (getD-row _ _ _ _ (c .before .pre .1))
+returns c = sym (getD-row _ _ _ _ (node-below _ (c .before .before .pre .1)))
 
 pub get-spec : {M : Type 1} → statement M
-get-spec = tie.close (tie.spec mul-result add-result mul-result-2 shared-slice-read-result returns)
+get-spec = tie.close (tie.spec sub-v mul-t6 add-t7 mul-t8 shared-slice-read-t5 returns)

@@ -7,21 +7,24 @@ use Rattle.units.specs.Limits.{mostNodes}
 use Rattle.layers.proofs.rows.put.Statement.{statement}
 use Rattle.layers.proofs.rows.put.Tie as tie
 
+sub-v : tie.Need-sub-v
+sub-v c = search needs
+
 mul-words : tie.Need-mul-words
 unfolding mostNodes
-mul-words c = omega (arith, c .pre, c .good)
+mul-words c = omega (arith, c .before .pre, c .before .good)
 
 add-words : tie.Need-add-words
 unfolding mostNodes
-add-words c = omega (arith, c .pre, c .good)
+add-words c = omega (arith, c .before .pre, c .before .good)
 
 mul-words-2 : tie.Need-mul-words-2
 unfolding mostNodes
-mul-words-2 c = omega (arith, c .pre, c .good)
+mul-words-2 c = omega (arith, c .before .pre, c .before .good)
 
 slice-write-words : tie.Need-slice-write-words
 unfolding mostNodes
-slice-write-words c = omega (arith, c .pre)
+slice-write-words c = omega (arith, c .before .pre)
 
 same-length : tie.Need-same-length
 same-length c = search needs
@@ -31,4 +34,4 @@ unfolding mostNodes
 returns c = refl
 
 pub put-spec : {M : Type 1} → statement M
-put-spec = tie.close (tie.spec mul-words add-words mul-words-2 slice-write-words same-length returns)
+put-spec = tie.close (tie.spec sub-v mul-words add-words mul-words-2 slice-write-words same-length returns)

@@ -3,6 +3,7 @@
 use mathlib.Core.Path.{refl, subst}
 use borrow.Author.Needs.{needs}
 use lib.Dec.{T}
+use Rattle.layers.proofs.NetworkLaws.{node-below}
 use Rattle.layers.proofs.TriedCode.{tried-skipped}
 use Rattle.layers.proofs.trying.try_changed.Statement.{statement}
 use Rattle.layers.proofs.trying.try_changed.Tie as tie
@@ -18,9 +19,9 @@ same-length c = search needs
 
 returns : tie.Need-returns
 returns c =
-    let at-get = c .before .before .before in
+    let at-get = c .before .before .before .before .before in
     let pre = at-get .before .before .before .before .before .before .before .before .pre in
-    (tried-skipped _ _ _ _ _ (pre .0 .3) (pre .0 .2) (pre .0 .5) (pre .1 .0) (pre .1 .1) _ _ (at-get .get .ensures) (c .before .get2 .ensures) (c .if1 .taken), λ e. refl)
+    (tried-skipped _ _ _ _ _ (pre .0 .3) (pre .0 .2) (node-below _ (pre .0 .5)) (pre .1 .0) (pre .1 .1) _ _ (at-get .get .ensures) (c .before .before .before .get2 .ensures) (c .if1 .taken), λ e. refl)
 
 try-from-requires : tie.Need-try-from-requires
 try-from-requires c κs = search needs
