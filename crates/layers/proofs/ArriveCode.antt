@@ -1,20 +1,26 @@
 -- What `arrive` and `try_contact` know of the network: the answer by the way that the code took.
---     arrive-never, arrive-ready, arrive-unready      when the file is ready behind a contact
---     late-by                                         it comes no earlier than at a time, by each of three tests
+--     open-free, open-time      a contact that is not shut is not barred, and the file is ready before it at a time
+--     arrive-shut, arrive-ready, arrive-unready      when the file is ready behind a contact
+--     late-by      it comes no earlier than at a time, by each of three tests
 -- Assumes nothing.
-use mathlib.Core.Logic.{inl, inr}
+use mathlib.Core.Bool.{Bool, true, false, _||_}
+use mathlib.Core.Logic.{inl, inr, ⊎-elim}
 use mathlib.Core.Path.{_≡_, refl, sym, ap, _∙_, subst}
 use Prim.Native.Nat.{ℕ, suc, _+_, _≤_, _<_}
 use native.Mathlib.Omega.{arith}
+use borrow.Author.Tests.{eq-eqb, ne-eqb}
+use lib.Dec.{T, eqb}
 use Rattle.units.specs.declared.Ask.{Ask}
 use Rattle.units.specs.declared.Millis.{Millis}
 use Rattle.units.specs.Limits.{lastTime, mostLight}
 use Rattle.plan.specs.declared.rows.Contact.{Contact}
-use Rattle.service.specs.Service.{Service, Sound, InPlan}
+use Rattle.service.specs.Service.{Service, Sound, contactOf, lightIn, leftIn, InPlan}
 use Rattle.timing.specs.declared.arrival.Arrival.{Arrival}
 use Rattle.timing.specs.declared.arrival.Arrival.the-variants.{Ready, Never}
-use Rattle.timing.specs.Model.{stepOver}
-use Rattle.timing.proofs.ChainCode.{step-bounded}
+use Rattle.timing.specs.Hop.{isBarred}
+use Rattle.timing.specs.Model.{overContact}
+use Rattle.timing.proofs.Bounded.{contact-good, light-good}
+use Rattle.timing.proofs.HopLaws.{hop-bounded}
 use Rattle.walk.specs.Walk.{GoodAsk}
 use Rattle.network.specs.Model.{behind}
 use Rattle.network.specs.Network.{When, at, never, NotLater, both, last}
@@ -22,7 +28,7 @@ use Rattle.network.proofs.Layers.{behind-after}
 use Rattle.network.proofs.Whens.{not-later-trans}
 use Rattle.layers.specs.Bridge.{whenOf, networkOf}
 use Rattle.layers.specs.Words.{neverWord, whenWord, TimeWord, LateBy}
-use Rattle.layers.proofs.NetworkLaws.{in-plan-contact, behind-start, behind-ended, network-laws}
+use Rattle.layers.proofs.NetworkLaws.{in-plan-contact, barredHop, step-is, behind-start, behind-ended, network-laws}
 use Rattle.layers.proofs.ReadCode.{Read}
 use Rattle.layers.proofs.RowLaws.{when-never, when-time, when-not-later, time-most}
 
@@ -30,24 +36,57 @@ use Rattle.layers.proofs.RowLaws.{when-never, when-time, when-not-later
 abbrev pub Arrives : Service → Ask → ℕ → ℕ → ℕ → Type 0
 Arrives p ask c ready r = (whenWord r ≡ behind (networkOf p ask) c (whenWord ready)) × TimeWord r
 
-pub arrive-never : (p : Service) (ask : Ask) (c ready : ℕ) → ready ≡ neverWord → Arrives p ask c ready neverWord
-unfolding behind
-arrive-never p ask c ready e = (rw (when-never ready e, when-never neverWord refl), inr refl)
+-- a contact that is not shut: the file is ready before it at some time, and it is not barred
+module _ (ready : ℕ) (bar : Bool) (opened : (eqb ready neverWord || bar) ≡ false) where
+  pub open-free : bar ≡ false
+  open-free = go (eqb ready neverWord) opened
+    where
+      go : (b : Bool) → (b || bar) ≡ false → bar ≡ false
+      go true e = absurd (subst T e tt)
+      go false e = e
 
--- contact c was read as x
-module _ (p : Service) (ask : Ask) (c ready : ℕ) (time : ready ≤ lastTime + mostLight) (x : Contact) (read : Read p c x) where
-  -- the step from the node that was read is the step of the network
-  steps : (a : Arrival) → a ≡ stepOver p ask (x .from .0) ready c → behind (networkOf p ask) c (whenWord ready) ≡ whenOf a
-  unfolding behind networkOf
-  steps a ea = rw (when-time ready time) (ap (λ (y : Contact). whenOf (stepOver p ask (y .from .0) ready c)) (read .same) ∙ ap whenOf (sym ea))
+  pub open-time : TimeWord ready → ready ≤ lastTime + mostLight
+  open-time =
+      ⊎-elim
+      (λ h. h)
+      (λ e.
+      let shut : (eqb ready neverWord || bar) ≡ true = rw (eq-eqb ready neverWord e) in
+      absurd (subst T (sym shut ∙ opened) tt))
 
-  pub arrive-ready : Sound p → (a : Arrival) (t : Millis) → a ≡ stepOver p ask (x .from .0) ready c → a ≡ Ready t → Arrives p ask c ready (t .0)
-  arrive-ready sound a t ea et =
-      let bound : t .0 ≤ lastTime + mostLight = step-bounded p sound ask (x .from .0) ready c t (sym ea ∙ et) in
-      (when-time (t .0) bound ∙ sym (steps a ea ∙ ap whenOf et), inl bound)
+-- contact c of the plan was read as x
+module _ (p : Service) (ask : Ask) (c ready : ℕ) (named : InPlan p c) (word : TimeWord ready) (x : Contact) (read : Read p c x) where
+  -- what comes behind it, by whether it is barred
+  hops : ready ≤ lastTime + mostLight → (bar : Bool) → isBarred ask x ≡ bar
+      → behind (networkOf p ask) c (whenWord ready) ≡ barredHop bar (lightIn p c) (leftIn p c) (contactOf p c) (ask .size) ready
+  unfolding behind
+  hops time bar e =
+      let told : isBarred ask (contactOf p c) ≡ bar = ap (isBarred ask) (read .same) ∙ e in
+      rw (when-time ready time) (step-is p ask c ready named ∙ ap (λ (b : Bool). barredHop b (lightIn p c) (leftIn p c) (contactOf p c) (ask .size) ready) told)
 
-  pub arrive-unready : (a : Arrival) → a ≡ stepOver p ask (x .from .0) ready c → a ≡ Never → Arrives p ask c ready neverWord
-  arrive-unready a ea et = (when-never neverWord refl ∙ sym (steps a ea ∙ ap whenOf et), inr refl)
+  pub arrive-shut : (eqb ready neverWord || isBarred ask x) ≡ true → Arrives p ask c ready neverWord
+  unfolding behind barredHop lastTime mostLight neverWord
+  arrive-shut shut = (when-never neverWord refl ∙ sym (go word), inr refl)
+    where
+      go : TimeWord ready → behind (networkOf p ask) c (whenWord ready) ≡ never
+      go (inl time) =
+          let bar : (eqb ready neverWord || isBarred ask x) ≡ isBarred ask x = rw (ne-eqb ready neverWord (λ e. absurd (omega arith))) in
+          hops time true (sym bar ∙ shut)
+      go (inr e) = rw (when-never ready e)
+
+  module _ (opened : (eqb ready neverWord || isBarred ask x) ≡ false) (a : Arrival) (ea : a ≡ overContact p ask c ready) where
+    comes : behind (networkOf p ask) c (whenWord ready) ≡ whenOf a
+    unfolding barredHop overContact
+    comes = hops (open-time ready (isBarred ask x) opened word) false (open-free ready (isBarred ask x) opened) ∙ ap whenOf (sym ea)
+
+    pub arrive-ready : Sound p → (t : Millis) → a ≡ Ready t → Arrives p ask c ready (t .0)
+    unfolding overContact
+    arrive-ready sound t et =
+        let after-end = hop-bounded (lightIn p c) (leftIn p c) (contactOf p c) (light-good p sound c named) (ask .size) ready t (sym ea ∙ et) in
+        let bound : t .0 ≤ lastTime + mostLight = omega (arith, contact-good p sound c named .ends, after-end) in
+        (when-time (t .0) bound ∙ sym (comes ∙ ap whenOf et), inl bound)
+
+    pub arrive-unready : a ≡ Never → Arrives p ask c ready neverWord
+    arrive-unready et = (when-never neverWord refl ∙ sym (comes ∙ ap whenOf et), inr refl)
 
 -- the file is at the contact's last node at `there` already
 module _ (p : Service) (ask : Ask) (c ready there : ℕ) (named : InPlan p c) (ready-word : TimeWord ready) where

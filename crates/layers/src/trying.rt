@@ -9,25 +9,37 @@ use lists::next_of;
 use plan::Contact;
 use plan::contact_numbered;
 use timing::Arrival;
-use timing::step;
+use timing::is_barred;
+use timing::over;
 use units::Ask;
 use units::ContactNo;
 use units::MOST_NODES;
 use units::Millis;
 use units::NodeNo;
-ghost use mathlib.Core.Bool.{true, false};
+ghost use mathlib.Core.Bool.{true, false, _||_};
 ghost use mathlib.Core.Path.{_≡_};
 ghost use Prim.Native.Nat.{ℕ, _+_, _-_, _*_, _≤_};
+ghost use lib.Dec.{eqb};
 ghost use lib.ListN.{length, getD};
 ghost use Rattle.units.specs.Limits.{mostNodes, IsNode};
-ghost use Rattle.plan.specs.Plan.{Each};
+ghost use Rattle.plan.specs.Plan.{Each, GoodContact};
 ghost use Rattle.service.specs.Service.{InPlan};
 ghost use Rattle.service.specs.Tables.{served, IsService};
+ghost use Rattle.timing.specs.Hop.{isBarred};
 ghost use Rattle.walk.specs.Walk.{GoodAsk};
 ghost use Rattle.network.specs.Model.{behind, relax, relaxed};
 ghost use Rattle.network.specs.Network.{never, NotLater};
 ghost use Rattle.layers.specs.Bridge.{networkOf};
-ghost use Rattle.layers.specs.Words.{whenWord, TimeWord, rowOf, layerOf, Layered, Listed, Tried, Older, LateBy};
+ghost use Rattle.layers.specs.Words.{neverWord, whenWord, TimeWord, rowOf, layerOf, Layered, Listed, Tried, Older, LateBy};
+
+// Whether nothing comes over the contact, whatever it offers: the file is never ready before it, or it goes
+// from the source to an excluded neighbour.
+fn is_shut(ask: Ask, pass: Contact, ready: Millis) -> bool
+    requires { ⌜ GoodContact pass ⌝ }
+    ensures { λ t. ⌜ t ≡ (eqb (ready .0) neverWord || isBarred ask pass) ⌝ }
+{
+    (ready.0 == NEVER) | is_barred(ask, pass)
+}
 
 // When the file is ready behind the contact, from when it is ready before it.
 pub fn arrive(
@@ -42,11 +54,11 @@ pub fn arrive(
     requires { ⌜ IsService (now contacts) «contact_count» (now lights) (now lefts) × GoodAsk ask × InPlan (served (now contacts) «contact_count» (now lights) (now lefts)) (no .0) × TimeWord (ready .0) ⌝ }
     ensures { λ r. ⌜ (whenWord (r .0) ≡ behind (networkOf (served (now (contacts .entry)) «contact_count» (now (lights .entry)) (now (lefts .entry))) ask) (no .0) (whenWord (ready .0))) × TimeWord (r .0) ⌝ }
 {
-    if ready.0 == NEVER {
+    let pass = contact_numbered(contacts, no);
+    if is_shut(ask, pass, ready) {
         return Millis(NEVER);
     }
-    let from = contact_numbered(contacts, no).from;
-    let arrival = step(contacts, contact_count, lights, lefts, ask, from, ready, no);
+    let arrival = over(contacts, contact_count, lights, lefts, ask, no, ready);
     match arrival {
         Arrival::Ready(t) => t,
         Arrival::Never => Millis(NEVER),
