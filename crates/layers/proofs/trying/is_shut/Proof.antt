@@ -10,7 +10,7 @@ is-barred-requires c κs = search needs
 
 returns : tie.Need-returns
 unfolding neverWord
-returns c = rw (c .is-barred .ensures)
+returns c = cc
 
 pub is-shut-spec : {M : Type 1} → statement M
 is-shut-spec = tie.close (tie.spec is-barred-requires returns)
