@@ -1,0 +1,2 @@
+-- Laws of the refusals, for the crates above: RefusalLaws.
+pub mod RefusalLaws
