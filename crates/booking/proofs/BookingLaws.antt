@@ -34,7 +34,7 @@ use Rattle.booking.specs.declared.checking.Check.the-variants.{Stop, Go}
 same-stop : {x y : Refusal} → _≡_ {A = Check} (Stop x) (Stop y) → x ≡ y
 same-stop e = cc
 
-stop-go : {A : Type 0} {x : Refusal} → _≡_ {A = Check} (Stop x) Go → A
+pub stop-go : {A : Type 0} {x : Refusal} → _≡_ {A = Check} (Stop x) Go → A
 stop-go e = let z : _≡_ {A = ℕ} 0 1 = cc in absurd (omega arith)
 
 module _ {contacts : List ℕ} {m : ℕ} {ranges : List ℕ} {n : ℕ} {book chains : List ℕ} {ask : Ask} {class : ℕ} where

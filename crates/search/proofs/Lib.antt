@@ -2,6 +2,7 @@
 -- CaseTable holds the request's cases to it. Chains and BestLaws say that an allowed chain and the best are those of the network; FindCode and
 -- RouteCode are what the proofs of the functions know. What those of the choice know stands in the crate `choice`.
 pub mod BestLaws
+pub mod CallTheorems
 pub mod CaseTable
 pub mod Chains
 mod FindCode
