@@ -3,7 +3,7 @@ pub mod CallLaws
 mod EnterCode
 pub mod HistoryLaws
 pub mod KeepLaws
-mod PlaceStores
+pub mod PlaceStores
 mod SamePlace
 pub mod StandingLaws
 mod Stores
