@@ -3,24 +3,27 @@
 --     length-lefts, getD-lefts                          what is left on contacts from a number on
 --     service-contact, service-light, service-left      what it holds for a contact
 --     left-exactly                                      what fits what is left
+--     volume-bounds                                     the volume is rounded down
 --     light-good, service-sound                         the plan is valid: every light time is in its range, and the service is sound
+--     service-has-light                                 the light time that it holds for a contact is the contact's
 --     is-service                                        tables that hold it hold a sound service
 -- Assumes nothing.
 use mathlib.Core.List.{List, [], _∷_, map}
 use mathlib.Core.Logic.{_↔_}
 use mathlib.Core.Path.{_≡_, refl, sym, ap, _∙_, subst}
-use Prim.Native.Nat.{ℕ, zero, suc, _+_, _-_, _≤_, _<_}
-use native.Mathlib.Nat.{zero-add, not-suc-le-zero, le-of-suc-le-suc}
+use Prim.Native.Nat.{ℕ, zero, suc, _+_, _-_, _*_, _%_, _≤_, _<_}
+use native.Mathlib.Nat.{zero-add, not-suc-le-zero, le-of-suc-le-suc, div-add-mod', mod-lt}
 use native.Mathlib.Omega.{arith}
+use lib.Dec.{lit≤}
 use lib.ListN.{length, getD, length-map}
 use lib.Seq.{ext-getD}
 use Rattle.plan.specs.declared.rows.Contact.{Contact}
 use Rattle.plan.specs.declared.light.Light.{Light}
 use Rattle.plan.specs.declared.light.Light.the-variants.{Of, Unranged}
-use Rattle.plan.specs.Light.{lightOf}
+use Rattle.plan.specs.Light.{HasLight, lightOf}
 use Rattle.plan.specs.Plan.{Plan, Each, Valid}
 use Rattle.plan.specs.Tables.{rowsFrom, IsPlan, planOf}
-use Rattle.plan.proofs.Ranging.{light-most}
+use Rattle.plan.proofs.Ranging.{light-has, light-most}
 use Rattle.plan.proofs.RowList.{length-rows, getD-rows}
 use Rattle.service.specs.Service.{blank, contactOf, lightIn, leftIn, volume, leftsFrom, serviceOf, InPlan, LightGood, Sound}
 use Rattle.service.specs.Tables.{served, IsService}
@@ -78,6 +81,16 @@ module _ (p : Plan) (used : ℕ → ℕ) (c : ℕ) where
 pub left-exactly : (n v u : ℕ) → 1 ≤ n → (n ≤ v - u) ↔ (n + u ≤ v)
 left-exactly n v u h = (λ f. omega arith, λ f. omega arith)
 
+-- the volume is rate times length over 1000, rounded down: so many bytes take no more than the contact's length, and one more would
+pub volume-bounds : (c : Contact)
+    → (volume c * 1000 ≤ c .rate * (c .end .0 - c .start .0)) × (c .rate * (c .end .0 - c .start .0) < (volume c + 1) * 1000)
+unfolding volume
+volume-bounds c =
+    let carried : ℕ = c .rate * (c .end .0 - c .start .0) in
+    let parts = div-add-mod' carried 1000 in
+    let rest : carried % 1000 < 1000 = mod-lt carried (lit≤ tt) in
+    (omega (arith, parts, rest), omega (arith, parts, rest))
+
 -- ---- soundness
 
 pub light-good : (p : Plan) → Valid p → (c : Contact) → LightGood (lightOf (p .ranges) c)
@@ -97,6 +110,14 @@ service-sound p v used = record {
       let below : k < length (p .contacts) = rw (length-map (p .contacts) (lightOf (p .ranges))) at h in
       rw (getD-mapped (lightOf (p .ranges)) (p .contacts) k blank light below) (light-good p v (getD (p .contacts) k blank));
 }
+
+-- the light time that the service holds for a contact is the one that the contact has in the plan
+pub service-has-light : (p : Plan) → Valid p → (used : ℕ → ℕ) (c : ℕ) → InPlan (serviceOf p used) c
+    → HasLight (p .ranges) (contactOf (serviceOf p used) c) (lightIn (serviceOf p used) c)
+unfolding Each
+service-has-light p v used c i =
+    subst (λ (light : Light). HasLight (p .ranges) (contactOf (serviceOf p used) c) light) (sym (service-light p used c i))
+    (light-has p v (contactOf (serviceOf p used) c) (service-sound p v used .contacts-good blank (c - 1) (omega (arith, i .least, i .most)) .starts))
 
 pub is-service : (contacts : List ℕ) (m : ℕ) (ranges : List ℕ) (n : ℕ) (lights lefts : List ℕ) (used : ℕ → ℕ) → IsPlan contacts m ranges n
     → m ≤ length lights → m ≤ length lefts → served contacts m lights lefts ≡ serviceOf (planOf contacts m ranges n) used → IsService contacts m lights lefts

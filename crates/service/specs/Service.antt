@@ -2,12 +2,14 @@
 --     Service                        the three lists, by contact number
 --     contactOf, lightIn, leftIn     what they hold for a contact
 --     volume                         the bytes that a contact carries in all
+--     leftOn                         what is left on a contact, with its sign
 --     serviceOf                      a plan as it serves an ask, where so many bytes of each contact are used
 --     Sound                          every contact good, every light time in its range
 -- Assumes nothing.
 use mathlib.Core.Path.{_≡_}
 use mathlib.Core.List.{List, [], _∷_, map}
 use Prim.Native.Nat.{ℕ, suc, _-_, _*_, _/_, _≤_}
+use lib.IntN.{ℤ, pos, _-ℤ_}
 use lib.ListN.{length, getD}
 use Rattle.units.specs.Limits.{mostContacts, mostLight}
 use Rattle.plan.specs.declared.rows.Contact.{Contact}
@@ -41,7 +43,12 @@ leftIn s c = getD (s .lefts) (c - 1) 0
 unfoldable pub volume : Contact → ℕ
 volume c = c .rate * (c .end .0 - c .start .0) / 1000
 
--- what is left on contacts from number n on: the volume less what is used, and 0 where more is used
+-- what is left on a contact where so many bytes of each are used: the volume less what is used, and below zero where more is used
+abbrev pub leftOn : Plan → (ℕ → ℕ) → ℕ → ℤ
+leftOn p used c = pos (volume (getD (p .contacts) (c - 1) blank)) -ℤ pos (used c)
+
+-- the bytes of it that can still be sent over contacts from number n on: what is left, and 0 where that is below zero (`left-serves` of
+-- proofs/LeftLaws.antt: a file fits the one exactly where it fits the other)
 unfoldable pub leftsFrom : (ℕ → ℕ) → ℕ → List Contact → List ℕ
 unfolding volume
 leftsFrom used n [] = []
