@@ -3,5 +3,6 @@ pub mod BookLaws
 mod ChainCode
 pub mod PlaceLaws
 mod SpendCode
+pub mod TakenLaws
 pub mod UsesLaws
 mod ValidCode
