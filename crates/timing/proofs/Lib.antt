@@ -1,4 +1,6 @@
 -- The laws of hops and chains. The files named Code are what the proofs of the functions know.
+pub mod AllowedLaws
+pub mod Barred
 pub mod Bounded
 pub mod ChainCode
 pub mod ChainLaws
@@ -6,4 +8,5 @@ pub mod Exclusion
 mod HopCode
 pub mod HopLaws
 pub mod Rounding
+pub mod ServedLaws
 pub mod Volume
