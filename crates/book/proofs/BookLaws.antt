@@ -1,36 +1,22 @@
 -- What a book uses of its contacts.
 --     used-none                    no booking uses anything
---     taken-class, used-class      a higher class has at least as much left
+--     used-class                   a higher class has at least as much left
 --     used-bounded                 how much a good book uses at the most
 --     empty-book                   where every place is free there is no booking
 -- Assumes nothing.
-use mathlib.Core.Bool.{Bool, _&&_, cond}
 use mathlib.Core.List.{List, [], _∷_}
 use mathlib.Core.Path.{_≡_, refl}
 use Prim.Native.Nat.{ℕ, zero, suc, _+_, _*_, _≤_, _<_}
 use native.Mathlib.Omega.{arith}
-use lib.Dec.{leb}
 use Rattle.units.specs.Limits.{mostConsumption, mostPlaces}
-use Rattle.plan.specs.Verdict.{Verdict, holds, fails}
-use Rattle.plan.proofs.Verdicts.{tells-le}
-use Rattle.book.specs.Book.{Booking, names, taken, used}
+use Rattle.book.specs.Book.{Booking, used}
 use Rattle.book.specs.Tables.{freeMark, markAt, bookingsFrom, bookOf, IsBook}
+use Rattle.book.proofs.TakenLaws.{taken-class}
 use Rattle.book.proofs.UsesLaws.{used-most}
 
 pub used-none : (class c : ℕ) → used [] class c ≡ 0
 unfolding used
 used-none class c = refl
-
-pub taken-class : (b : Booking) (class class′ c : ℕ) → class ≤ class′ → taken b class′ c ≤ taken b class c
-unfolding taken
-taken-class b class class′ c h = go (leb class (b .class)) (leb class′ (b .class)) (tells-le class (b .class)) (tells-le class′ (b .class))
-  where
-    go : (x y : Bool) → Verdict (class ≤ b .class) x → Verdict (class′ ≤ b .class) y
-        → cond (y && names (b .chain) c) (b .consumption) 0 ≤ cond (x && names (b .chain) c) (b .consumption) 0
-    go _ _ (holds p) (holds q) = omega arith
-    go _ _ (holds p) (fails q) = omega arith
-    go _ _ (fails p) (holds q) = absurd (p (omega arith))
-    go _ _ (fails p) (fails q) = omega arith
 
 pub used-class : (bs : List Booking) (class class′ c : ℕ) → class ≤ class′ → used bs class′ c ≤ used bs class c
 unfolding used

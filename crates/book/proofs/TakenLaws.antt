@@ -3,6 +3,8 @@
 --     taken-own          its consumption, from its own class and lower ones, where its chain names the contact
 --     taken-higher       nothing from a higher one
 --     taken-elsewhere    nothing where its chain does not name the contact
+--     taken-amount       so never more than its consumption
+--     taken-class        and no more from a higher class than from a lower one
 --     used-one, used-joined      what bookings use is what each takes, added up
 -- Assumes nothing.
 use mathlib.Core.Bool.{Bool, true, _&&_, cond}
@@ -69,6 +71,20 @@ module _ (b : Booking) (class c : ℕ) where
 
   pub taken-elsewhere : (StandsIn (b .chain) c → ⊥) → taken b class c ≡ 0
   taken-elsewhere f = taken-nothing (λ w. f (w .1))
+
+  pub taken-amount : taken b class c ≤ b .consumption
+  taken-amount = go _ taken-where
+    where
+      go : (x : Bool) → Verdict ((class ≤ b .class) × StandsIn (b .chain) c) x → taken b class c ≤ b .consumption
+      go _ (holds w) = omega (arith, taken-own (w .0) (w .1))
+      go _ (fails n) = omega (arith, taken-nothing n)
+
+pub taken-class : (b : Booking) (class class′ c : ℕ) → class ≤ class′ → taken b class′ c ≤ taken b class c
+taken-class b class class′ c h = go _ (taken-where b class′ c)
+  where
+    go : (x : Bool) → Verdict ((class′ ≤ b .class) × StandsIn (b .chain) c) x → taken b class′ c ≤ taken b class c
+    go _ (holds w) = omega (arith, taken-own b class c (omega (arith, w .0)) (w .1), taken-own b class′ c (w .0) (w .1))
+    go _ (fails n) = omega (arith, taken-nothing b class′ c n)
 
 module _ (class c : ℕ) where
   pub used-one : (b : Booking) → used (b ∷ []) class c ≡ taken b class c

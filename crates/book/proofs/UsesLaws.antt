@@ -1,19 +1,19 @@
 -- What the bookings of some places use of a contact, place by place.
 --     used-more, used-last      one place more, at the front and at the end
---     taken-amount              a booking takes its consumption at the most
 --     taken-most, used-most     how much one place, and n places, use at the most
 -- Assumes nothing.
-use mathlib.Core.Bool.{Bool, true, false, _&&_, cond}
+use mathlib.Core.Bool.{Bool, true, false, cond}
 use mathlib.Core.List.{List, _∷_}
 use mathlib.Core.Path.{_≡_, refl, sym, ap, _∙_}
 use Prim.Native.Nat.{ℕ, zero, suc, _+_, _*_, _≤_, _<_}
 use native.Mathlib.Nat.{add-zero}
 use native.Mathlib.Omega.{arith}
-use lib.Dec.{leb, eqb}
+use lib.Dec.{eqb}
 use Rattle.units.specs.Limits.{mostConsumption}
-use Rattle.book.specs.Book.{Booking, names, taken, used}
+use Rattle.book.specs.Book.{taken, used}
 use Rattle.book.specs.Model.{takenAt}
 use Rattle.book.specs.Tables.{openMark, markAt, bookingAt, bookingsFrom, GoodPlace, free-place, open-place}
+use Rattle.book.proofs.TakenLaws.{taken-amount}
 
 module _ (t u : List ℕ) (class c : ℕ) where
   pub used-more : (k n : ℕ) → used (bookingsFrom t u k (suc n)) class c ≡ takenAt t u k class c + used (bookingsFrom t u (suc k) n) class c
@@ -36,14 +36,6 @@ module _ (t u : List ℕ) (class c : ℕ) where
       let there = ap (λ (i : ℕ). takenAt t u i class c) e in
       let rest = used-last (suc k) n in
       omega (arith, used-more k (suc n), used-more k n, rest, there)
-
-pub taken-amount : (b : Booking) (class c : ℕ) → taken b class c ≤ b .consumption
-unfolding taken
-taken-amount b class c = go (leb class (b .class) && names (b .chain) c)
-  where
-    go : (x : Bool) → cond x (b .consumption) 0 ≤ b .consumption
-    go true = omega arith
-    go false = omega arith
 
 pub taken-most : (m : ℕ) (t u : List ℕ) (k class c : ℕ) → GoodPlace m t u k → takenAt t u k class c ≤ mostConsumption
 unfolding takenAt

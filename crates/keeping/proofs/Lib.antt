@@ -4,6 +4,6 @@ mod EnterCode
 pub mod HistoryLaws
 pub mod KeepLaws
 pub mod PlaceStores
-mod SamePlace
+pub mod SamePlace
 pub mod StandingLaws
 mod Stores
