@@ -16,7 +16,7 @@ use borrow.Author.Tests.{eqb-true}
 use lib.Dec.{eqb}
 use lib.ListN.{length, take, drop, length-append}
 use lib.Seq.{take-at}
-use Rattle.units.specs.Limits.{mostConsumption}
+use Rattle.units.specs.Limits.{mostConsumption, mostSize}
 use Rattle.units.specs.declared.Ask.{Ask}
 use Rattle.units.specs.declared.Millis.{Millis}
 use Rattle.plan.specs.declared.rows.Contact.{Contact}
@@ -105,7 +105,7 @@ module _ {contacts : List ℕ} {m : ℕ} {ranges : List ℕ} {n : ℕ} {book cha
   chain-carries = route-allowed-in-time chosen-plan .0 .carried
 
   pub chosen-booking : GoodBooking m (bookingOf ask class (take count after))
-  unfolding mostConsumption Each
+  unfolding mostConsumption mostSize Each
   chosen-booking =
       let good = chosen-good in
       let sound = service-sound (planOf contacts m ranges n) (good .plan .valid) (used (bookOf book chains) class) in
@@ -114,7 +114,7 @@ module _ {contacts : List ℕ} {m : ℕ} {ranges : List ℕ} {n : ℕ} {book cha
         class-least = good .good-class .least;
         class-most = good .good-class .most;
         consumption-least = omega (arith, consumed-form (ask .size), good .good-ask .size-least);
-        consumption-most = consumed-most (ask .size) (good .good-ask .size-most);
+        consumption-most = omega (arith, consumed-most (ask .size) (good .good-ask .size-most), good .good-ask .size-most);
         some = route-allowed-in-time chosen-plan .0 .some-contact;
         few = omega (arith, short, chosen-count);
         named = λ blank k h.

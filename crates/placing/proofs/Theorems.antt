@@ -18,7 +18,7 @@ use Rattle.service.specs.Service.{contactOf, volume}
 use Rattle.service.proofs.ServiceLaws.{left-exactly, service-left}
 use Rattle.book.specs.Book.{names, used}
 use Rattle.book.specs.Tables.{IsBook, bookOf}
-use Rattle.book.proofs.UsesLaws.{taken-amount}
+use Rattle.book.proofs.TakenLaws.{taken-amount}
 use Rattle.keeping.specs.Keeping.{IsLowestFree, AllOpen, entered, enteredChain}
 use Rattle.keeping.proofs.KeepLaws.{entered-book, freed-book, used-entered}
 use Rattle.timing.specs.Hop.{consumed}
