@@ -2,6 +2,7 @@
 pub mod Before
 pub mod EachRow
 pub mod Lent
+pub mod LightLaws
 pub mod Loops
 pub mod Moments
 pub mod Ranging
