@@ -1,4 +1,5 @@
--- A book and its history: bookings entered and places freed, from an empty book on, with the plan fixed (m contacts).
+-- A book and its history: bookings entered and places freed, from an empty book on, with the plan fixed (m contacts). No call's promise cites it; the
+-- theorems about sessions of calls cite `Standing`, `without` and `standingUse`.
 --     Standing       the bookings made and not released, each with its place
 --     Kept           the tables to which a history leads, and what stands after it
 -- Assumes nothing.

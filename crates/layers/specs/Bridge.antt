@@ -1,4 +1,5 @@
--- A plan with an ask, seen as a network: node n of the plan is node n - 1 of the network, and contacts keep their numbers.
+-- A plan with an ask, seen as a network: node n of the plan is node n - 1 of the network, and contacts keep their numbers. A reader of the promises
+-- may skip it.
 -- Assumes nothing.
 use mathlib.Core.Bool.{Bool, cond}
 use Prim.Native.Nat.{ℕ, _-_}

@@ -1,4 +1,5 @@
--- Rows in lists by a key: the least row that has the key, and behind each row the least later one that has the same.
+-- Rows in lists by a key: the least row that has the key, and behind each row the least later one that has the same. A reader of the promises may
+-- skip it.
 --     LeastFrom          the least row with a key from a row on, or the number of rows where none has it
 --     Linked             what two tables hold: the first row of each key, and the next row of each row
 --     pairSlot, slotAt   the key of a row: the slot of its pair of nodes

@@ -1,5 +1,5 @@
 -- The best chain to a node, among all chains of any length: earliest, then fewest contacts, then, read from the last contact back, the lower
--- contact number at the first difference.
+-- contact number at the first difference. The promise of `route` cites `LowerBack`; a reader of the calls' promises may skip the rest.
 -- Assumes nothing.
 use mathlib.Core.Path.{_≡_}
 use mathlib.Core.List.{List, _∷_, reverse}

@@ -1,5 +1,6 @@
 -- A network of contacts: what the search knows of a plan with an ask, and no more. Nodes are numbers below `nodes`, contacts are numbered
--- from 1 to `contacts`, and `step c t` is when a file is ready behind contact c if it is ready before it at t, or never.
+-- from 1 to `contacts`, and `step c t` is when a file is ready behind contact c if it is ready before it at t, or never. A reader of the calls' promises
+-- may skip it.
 --     When        a time, or never
 --     Network     the network; Laws, what is known of it
 --     Runs        a chain of contacts carries the file from a node and a time to a node and a time

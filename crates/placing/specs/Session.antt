@@ -1,4 +1,4 @@
--- A book and the calls made on it, from an empty book on, with the plan fixed.
+-- A book and the calls made on it, from an empty book on, with the plan fixed. No call's promise cites it: the theorems of proofs/SessionLaws.antt do.
 --     stands, leaves      what stands after a call, counted from its answer
 --     Session             the tables to which a sequence of calls leads, and what stands after it: booked and not released
 -- Assumes nothing.

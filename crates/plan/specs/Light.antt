@@ -3,7 +3,8 @@
 --     Ranged             the ranges of the pair together cover every millisecond of the contact
 --     IsLargest          the largest light time among the ranges that share time with it
 --     HasLight           the light time of a contact, or none
---     lightOf            the same, as the code finds it: proofs/Ranging.antt joins the two, for the ranges of a valid plan
+--     lightOf            the same, as the code finds it. A reader of the promises may skip how: `light-has` of proofs/Ranging.antt says that it is the
+--                        light time that the contact has, for the ranges of a valid plan
 -- Assumes nothing.
 use mathlib.Core.Bool.{Bool, true, false, _&&_, _||_, cond}
 use mathlib.Core.List.{List, [], _∷_}
@@ -46,8 +47,8 @@ pub data HasLight (rs : List Range) (c : Contact) : Light → Type 0 where
   ranged : {l : Millis} → Ranged rs c → IsLargest rs c l → HasLight rs c (Of l)
   not-ranged : (Ranged rs c → ⊥) → HasLight rs c Unranged
 
--- ---- as the code finds it: the ranges of a valid plan do not overlap, so they cover the contact exactly where the time that they share with it adds
--- up to its length
+-- ---- as the code finds it, which a reader of the promises may skip: the ranges of a valid plan do not overlap, so they cover the contact exactly
+-- where the time that they share with it adds up to its length
 
 abbrev pub joins : Range → Contact → Bool
 joins r c = (eqb (r .a .0) (c .from .0) && eqb (r .b .0) (c .to .0)) || (eqb (r .a .0) (c .to .0) && eqb (r .b .0) (c .from .0))

@@ -1,6 +1,6 @@
 -- The light time of a contact as it was before ranges could change during a pass: that of the single range that covers all of it, or none.
 -- `light-as-before` of proofs/Before.antt: a contact that a single range covers, and one that all ranges together do not cover, have the light time
--- that they had.
+-- that they had. No promise cites it: a reader may skip it.
 -- Assumes nothing.
 use mathlib.Core.Bool.{Bool, _&&_}
 use mathlib.Core.List.{List, [], _∷_}

@@ -1,4 +1,5 @@
--- What the answer of a test says of a statement: true where it holds, and false where it does not.
+-- What the answer of a test says of a statement: true where it holds, and false where it does not. Only functions inside the calls cite it: a reader
+-- of the promises may skip it.
 -- Assumes nothing.
 use mathlib.Core.Bool.{Bool, true, false}
 

@@ -67,6 +67,8 @@ pub record InPlan (s : Service) (c : ℕ) : Type 0 where
   pub least : 1 ≤ c
   pub most : c ≤ length (s .contacts)
 
+-- ---- what functions inside the calls require: a reader of the promises may skip it
+
 abbrev pub LightGood : Light → Type 0
 LightGood (Of l) = l .0 ≤ mostLight
 LightGood Unranged = Unit {0}

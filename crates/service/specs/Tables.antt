@@ -1,4 +1,5 @@
--- How lent words hold a service: a table of contacts as a plan has it, and beside it a table of light times and one of the bytes that are left.
+-- How lent words hold a service: a table of contacts as a plan has it, and beside it a table of light times and one of the bytes that are left. Only
+-- functions inside the calls cite it: a reader of the promises may skip it.
 --     lightAt, leftAt      what these say of a contact, at a place counted from 0
 --     served               the service that the three tables hold
 --     IsService            they hold a sound one
