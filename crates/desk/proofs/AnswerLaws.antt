@@ -2,9 +2,9 @@
 --     writes-answer-determined      two results that meet it are equal
 --     writes-answer-fits            what is written lies within the output
 --     route-line-short              the line of an answer of `route`: at most 305 bytes
---     refused-line-short            the line of a refusal whose place has at most five digits: at most 17 bytes
+--     refused-line-short            the line of a refusal whose place has at most 20 digits, as 64 bits do: at most 32 bytes
 --     has-chain                     an answer of `route` counts contacts that the lent chain holds
---     answer-has-room               305 bytes have room for what `route` answers; refused-has-room, 17 for such a refusal
+--     has-room                      a line that the output has room for is written
 -- Assumes nothing.
 use mathlib.Core.List.{List, [], _∷_, map, List·Memᴰ, List·Memᴰ·head, List·Memᴰ·tail}
 use mathlib.Core.Path.{_≡_, refl}
@@ -89,11 +89,11 @@ number-short why = decimal-short 1 (numberOf why) (small why)
     small FullBook = omega arith
     small NotOpen = omega arith
 
-pub refused-line-short : (why : Refusal) (chain : List ℕ) → placeOf why ≤ 99_999 → length (answerBytes (Refused why) chain) ≤ 17
+pub refused-line-short : (why : Refusal) (chain : List ℕ) → placeOf why < 10 ^ 20 → length (answerBytes (Refused why) chain) ≤ 32
 unfolding answerBytes answerLine refusedWord lineOf glueLine glueFields
 refused-line-short why chain h =
     let number = number-short why in
-    let place = decimal-short 4 (placeOf why) (omega arith) in
+    let place = decimal-short 19 (placeOf why) h in
     simp length-append (omega arith)
 
 -- ---- the line of a best chain
@@ -166,15 +166,6 @@ module _ {contacts : List ℕ} {m : ℕ} {ranges : List ℕ} {n : ℕ} {ask : As
 
 -- ---- there is room
 
-has-room : {answer : Routed} {chain out : List ℕ} {r : Written} {out′ : List ℕ} → HasChain chain answer → length (answerBytes answer chain) ≤ length out
+pub has-room : {answer : Routed} {chain out : List ℕ} {r : Written} {out′ : List ℕ} → HasChain chain answer → length (answerBytes answer chain) ≤ length out
     → WritesAnswer answer chain out r out′ → r ≡ Length (length (answerBytes answer chain))
 has-room has h w = writes-answer-determined w (written has h) .0
-
-pub answer-has-room : {contacts : List ℕ} {m : ℕ} {ranges : List ℕ} {n : ℕ} {ask : Ask} {before : List ℕ} {answer : Routed} {chain out : List ℕ}
-    {r : Written} {out′ : List ℕ} → Routes contacts m ranges n ask before answer chain → 305 ≤ length out → WritesAnswer answer chain out r out′
-    → r ≡ Length (length (answerBytes answer chain))
-answer-has-room routes h w = has-room (has-chain routes) (le-trans (route-line-short routes) h) w
-
-pub refused-has-room : {why : Refusal} {chain out : List ℕ} {r : Written} {out′ : List ℕ} → placeOf why ≤ 99_999 → 17 ≤ length out
-    → WritesAnswer (Refused why) chain out r out′ → r ≡ Length (length (answerBytes (Refused why) chain))
-refused-has-room {why} {chain} place h w = has-room of-refusal (le-trans (refused-line-short why chain place) h) w

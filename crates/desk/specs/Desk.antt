@@ -1,13 +1,15 @@
--- What answering an ask line promises: the line is read, the route worked out over the lent tables, and its answer written (proofs/DeskLaws.antt: no
--- two results meet it, and 305 bytes are always room enough).
---     AnswersAsk      an ask is answered
---     Answers         an ask line is answered; `n` is the line's place in the input
+-- What answering an ask line promises: 9 of the lent tables first, then the line is read, the route worked out over the tables, and its answer written
+-- (proofs/DeskLaws.antt: no two results meet it, and 305 bytes are always room enough).
+--     Replies      the answer of an ask line; `n` is the line's place in the input
+--     Answers      an ask line is answered
 -- Assumes nothing.
 use mathlib.Core.List.{List, []}
 use Prim.Native.Nat.{ℕ}
 use lib.ListN.{replicate}
 use Rattle.units.specs.declared.Ask.{Ask}
 use Rattle.units.specs.declared.Refusal.{Refusal}
+use Rattle.units.specs.declared.Refusal.the-variants.{NoPlan}
+use Rattle.plan.specs.Tables.{IsPlan}
 use Rattle.text.specs.Lines.{Line}
 use Rattle.text.specs.declared.answer.Written.{Written}
 use Rattle.search.specs.Route.{Routes}
@@ -21,16 +23,17 @@ use Rattle.desk.specs.declared.ask.AskRead.the-variants.{Asked, Refused}
 unfoldable pub places : List ℕ
 places = replicate 63 0
 
--- what `route` says of the ask is written
-pub record AnswersAsk (contacts : List ℕ) (m : ℕ) (ranges : List ℕ) (k : ℕ) (ask : Ask) (out : List ℕ) (r : Written) (out′ : List ℕ) : Type 0 where
-  pub answer : Routed
-  pub chain : List ℕ
-  pub routes : Routes contacts m ranges k ask places answer chain
-  pub writes : WritesAnswer answer chain out r out′
+module _ (contacts : List ℕ) (m : ℕ) (ranges : List ℕ) (k : ℕ) (l : Line) (n : ℕ) where
+  -- 9 where the lent tables are no plan; else the line's own refusal; else what `route` says of its ask, with its chain
+  pub data Replies : Routed → List ℕ → Type 0 where
+    no-plan : (IsPlan contacts m ranges k → ⊥) → Replies (NoRoute NoPlan) []
+    not-asked : {why : Refusal} → IsPlan contacts m ranges k → ReadsAsk l n (Refused why) → Replies (NoRoute why) []
+    asked : {ask : Ask} {answer : Routed} {chain : List ℕ} → IsPlan contacts m ranges k → ReadsAsk l n (Asked ask)
+        → Routes contacts m ranges k ask places answer chain → Replies answer chain
 
--- the line's own refusal; else the answer of its ask
-pub data Answers (contacts : List ℕ) (m : ℕ) (ranges : List ℕ) (k : ℕ) (l : Line) (n : ℕ) (out : List ℕ) : Written → List ℕ → Type 0 where
-  not-asked : {why : Refusal} {r : Written} {out′ : List ℕ} → ReadsAsk l n (Refused why) → WritesAnswer (NoRoute why) [] out r out′
-      → Answers contacts m ranges k l n out r out′
-  answered : {ask : Ask} {r : Written} {out′ : List ℕ} → ReadsAsk l n (Asked ask) → AnswersAsk contacts m ranges k ask out r out′
-      → Answers contacts m ranges k l n out r out′
+  -- that answer is written
+  pub record Answers (out : List ℕ) (r : Written) (out′ : List ℕ) : Type 0 where
+    pub answer : Routed
+    pub chain : List ℕ
+    pub replies : Replies answer chain
+    pub writes : WritesAnswer answer chain out r out′

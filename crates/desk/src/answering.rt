@@ -7,8 +7,11 @@ use search::route;
 use text::Written;
 use units::Ask;
 use units::MOST_CHAIN;
+use units::Refusal;
+use validity::is_plan;
 ghost use Rattle.text.specs.Model.{lineIn};
-ghost use Rattle.desk.specs.Desk.{Answers, AnswersAsk};
+ghost use Rattle.desk.specs.Answering.{AnswersAsk, AnswersRefusal};
+ghost use Rattle.desk.specs.Desk.{Answers};
 
 // The answer of `route`, written.
 fn answer_ask(
@@ -33,6 +36,24 @@ fn answer_ask(
     write_answer(answer, &chain, out)
 }
 
+// The refusal of a line written, or that the tables are no plan, which comes first. (`route` sees to it
+// itself where the line is an ask.)
+fn answer_refused(
+    contacts: &[u64],
+    contact_count: usize,
+    ranges: &[u64],
+    range_count: usize,
+    why: Refusal,
+    out: &mut [u8],
+) -> Written
+    ensures { λ r. ⌜ AnswersRefusal (now (contacts .entry)) «contact_count» (now (ranges .entry)) «range_count» why (now (out .entry)) r (now (out .exit)) ⌝ }
+{
+    if is_plan(contacts, contact_count, ranges, range_count) {
+        return write_answer(Routed::Refused(why), &[], out);
+    }
+    write_answer(Routed::Refused(Refusal::NoPlan), &[], out)
+}
+
 // Answers an ask line, which has no line feed here, as `read_ask` takes it: the length of the line written
 // into the lent bytes, or why nothing is written.
 pub fn answer_line(
@@ -49,6 +70,13 @@ pub fn answer_line(
 {
     match read_ask(line, ended, number) {
         AskRead::Asked(ask) => answer_ask(contacts, contact_count, ranges, range_count, ask, out),
-        AskRead::Refused(why) => write_answer(Routed::Refused(why), &[], out),
+        AskRead::Refused(why) => answer_refused(
+            contacts,
+            contact_count,
+            ranges,
+            range_count,
+            why,
+            out,
+        ),
     }
 }

@@ -1,110 +1,91 @@
-// The input, line by line: each answered into a buffer that is printed whenever it fills.
-use crate::output::LINE;
-use crate::output::print;
-use crate::output::refuse;
-use desk::answer_line;
+// The input, a buffer at a time: as many lines answered as the buffer has room for, and printed.
+use crate::output::Receipt;
+use crate::output::line_there;
+use crate::output::none_printed;
+use crate::output::print_answers;
+use crate::output::printed_to;
+use crate::refusing::refuse;
+use desk::answer_lines;
 use libc::STDIN_FILENO;
-use lines::find;
-use text::Written;
 use units::MOST_TEXT;
 use units::Refusal;
-ghost use Prim.Native.Nat.{_≤_};
-ghost use lib.ListN.{length};
+ghost use mathlib.Core.Path.{_≡_};
+ghost use Prim.Native.Nat.{_+_, _≤_, _<_};
+ghost use lib.ListN.{length, drop};
+ghost use Rattle.units.specs.Limits.{mostText};
+ghost use Rattle.text.specs.Lines.{linesOf};
+ghost use Rattle.desk.specs.Through.{longest};
+ghost use Rattle.route.specs.Receipts.{InputDone, ReadDone};
 
-const LINE_FEED: u8 = 10;
 // One byte more than the input may have, so that a longer one is seen to be too long.
 const INPUT: usize = MOST_TEXT + 1;
 // The bytes of the buffer.
 const OUTPUT: usize = 65_536;
 
-// Where the next line goes: behind the bytes used, or at the start once these are printed.
-fn room(out: &[u8], used: usize) -> usize
-    requires { ⌜ used ≤ length (now out) ⌝ }
-    ensures { λ r. ⌜ r ≤ length (now (out .entry)) ⌝ }
-{
-    if LINE <= out.len() - used {
-        return used;
-    }
-    print(&out[..used]);
-    0
-}
-
-// The line answered behind the bytes used, and how many are used then. There is room for it, so that it
-// is not refused.
-fn answer_into(
+// The lines from the place printed on, as many as the buffer has room for, answered and printed.
+fn answer_some(
     contacts: &[u64],
     m: usize,
     ranges: &[u64],
     n: usize,
-    line: &[u8],
-    ended: bool,
-    number: u64,
+    input: &[u8],
+    printed: Receipt,
     out: &mut [u8],
-    used: usize,
-) -> usize
-    requires { ⌜ used ≤ length (now out) ⌝ }
-    ensures { λ r. ⌜ r ≤ length (now (out .exit)) ⌝ }
+) -> Receipt
+    requires { ⌜ (length (now input) ≤ mostText) × (printed .at < length (now input)) × (printed .line ≤ mostText) × (longest ≤ length (now out)) ⌝ }
+    ensures { λ r. ⌜ (printed .at < r .at) × (r .line + length (linesOf (drop (r .at) (now (input .entry)))) ≡ printed .line + length (linesOf (drop (printed .at) (now (input .entry))))) × (r .refused ≡ 0) ⌝ }
 {
-    match answer_line(
+    let at = printed_to(printed);
+    let line = line_there(printed);
+    let reached = answer_lines(contacts, m, ranges, n, input, at, line, out);
+    let used = reached.used;
+    print_answers(
         contacts,
         m,
         ranges,
         n,
-        line,
-        ended,
-        number,
-        &mut out[used..],
-    ) {
-        Written::Length(length) => used + length,
-        Written::Refused(_) => used,
-    }
+        input,
+        printed,
+        reached,
+        &out[..used],
+    )
 }
 
-// Every line answered, and printed.
-fn answer_lines(
+// Every line answered and printed, a buffer after the other, up to the input's end.
+fn answer_each(
     contacts: &[u64],
     m: usize,
     ranges: &[u64],
     n: usize,
     input: &[u8],
     out: &mut [u8],
-) {
-    let mut at: usize = 0;
-    let mut number: u64 = 1;
-    let mut used: usize = 0;
-    while at < input.len() {
-        let end = find(input, at, LINE_FEED);
-        used = room(out, used);
-        used = answer_into(
-            contacts,
-            m,
-            ranges,
-            n,
-            &input[at..end],
-            end < input.len(),
-            number,
-            out,
-            used,
-        );
-        at = end + 1;
-        number += 1;
+) -> Receipt
+    requires { ⌜ (length (now input) ≤ mostText) × (longest ≤ length (now out)) ⌝ }
+    ensures { λ r. ⌜ (length (now (input .entry)) ≤ r .at) × (r .refused ≡ 0) ⌝ }
+{
+    let mut printed = none_printed();
+    while printed_to(printed) < input.len() {
+        printed = answer_some(contacts, m, ranges, n, input, printed, out);
     }
-    print(&out[..used]);
+    printed
 }
 
 // The asks of the input answered, or the input refused where it is too long.
-fn answer_all(contacts: &[u64], m: usize, ranges: &[u64], n: usize, input: &[u8]) {
+fn answer_all(contacts: &[u64], m: usize, ranges: &[u64], n: usize, input: &[u8]) -> Receipt
+    ensures { λ r. ⌜ InputDone (now (input .entry)) r ⌝ }
+{
     if MOST_TEXT < input.len() {
-        refuse(Refusal::LongText);
-        return;
+        return refuse(Refusal::LongText);
     }
     let mut out = [0u8; OUTPUT];
-    answer_lines(contacts, m, ranges, n, input, &mut out);
+    answer_each(contacts, m, ranges, n, input, &mut out)
 }
 
 // Standard input, read to its end or to its first byte too many, and answered.
-pub fn answer_input(contacts: &[u64], m: usize, ranges: &[u64], n: usize) {
+pub fn answer_input(contacts: &[u64], m: usize, ranges: &[u64], n: usize) -> Receipt
+    ensures { λ r. ⌜ ReadDone r ⌝ }
+{
     let mut input = [0u8; INPUT];
     let length = io::read_full(STDIN_FILENO, &mut input);
-    answer_all(contacts, m, ranges, n, &input[..length]);
+    answer_all(contacts, m, ranges, n, &input[..length])
 }

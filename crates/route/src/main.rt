@@ -1,11 +1,14 @@
 // The program `route`: answers the asks of standard input over the plan of the file plan.txt.
 mod asks;
 mod output;
+mod refusing;
 
+use output::Receipt;
 use parse::read;
 use text::PlanRead;
 use units::MOST_TEXT;
 ghost use Rattle.io.specs.Counts.{Counts};
+ghost use Rattle.route.specs.Receipts.{PlanDone};
 
 // One byte more than a plan text may have, so that a longer one is seen to be too long.
 const TEXT: usize = MOST_TEXT + 1;
@@ -26,10 +29,12 @@ fn load(text: &mut [u8]) -> usize
 }
 
 // The asks answered over the plan that the text is, or its refusal.
-fn answer_over(text: &[u8], contacts: &mut [u64], ranges: &mut [u64]) {
+fn answer_over(text: &[u8], contacts: &mut [u64], ranges: &mut [u64]) -> Receipt
+    ensures { λ r. ⌜ PlanDone (now (text .entry)) (now (contacts .entry)) (now (ranges .entry)) (now (contacts .exit)) (now (ranges .exit)) r ⌝ }
+{
     match read(text, contacts, ranges) {
         PlanRead::Rows(m, n) => asks::answer_input(contacts, m, ranges, n),
-        PlanRead::Refused(why) => output::refuse(why),
+        PlanRead::Refused(why) => refusing::refuse(why),
     }
 }
 

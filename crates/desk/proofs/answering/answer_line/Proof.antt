@@ -1,9 +1,7 @@
 -- `desk::answering::answer_line` meets its contract.
 -- Assumes nothing.
-use mathlib.Core.Path.{subst}
 use borrow.Author.Needs.{needs}
-use Rattle.desk.specs.Asks.{ReadsAsk}
-use Rattle.desk.specs.Desk.{not-asked, answered}
+use Rattle.desk.proofs.AnsweringCode.{asked-answers, refused-answers}
 use Rattle.desk.proofs.answering.answer_line.Statement.{statement}
 use Rattle.desk.proofs.answering.answer_line.Tie as tie
 
@@ -19,11 +17,8 @@ answer-ask-requires c κs = search needs
 enum-known-why : tie.Need-enum-known-why
 enum-known-why c = search needs
 
-slice-aggregate-write-answer : tie.Need-slice-aggregate-write-answer
-slice-aggregate-write-answer c = search needs
-
-write-answer-requires : tie.Need-write-answer-requires
-write-answer-requires c κs = search needs
+answer-refused-requires : tie.Need-answer-refused-requires
+answer-refused-requires c κs = search needs
 
 same-length : tie.Need-same-length
 same-length c = search needs
@@ -32,16 +27,16 @@ returns : tie.Need-returns
 returns c =
     let at-ask = c .before .before .before .before .before in
     let read = at-ask .before .before .read-ask .ensures in
-    answered (rw (at-ask .ask .given .1) at read) (c .before .before .answer-ask .ensures)
+    asked-answers (rw (at-ask .ask .given .1) at read) (c .before .before .answer-ask .ensures)
 
 same-length-2 : tie.Need-same-length-2
 same-length-2 c = search needs
 
 returns-2 : tie.Need-returns-2
 returns-2 c =
-    let at-why = c .before .before .before .before .before .before in
+    let at-why = c .before .before .before .before .before in
     let read = at-why .before .before .read-ask .ensures in
-    not-asked (rw (at-why .why .given .1) at read) (c .before .before .write-answer .ensures)
+    refused-answers (rw (at-why .why .given .1) at read) (c .before .before .answer-refused .ensures)
 
 pub answer-line-spec : {M : Type 1} → statement M
 answer-line-spec =
@@ -51,8 +46,7 @@ answer-line-spec =
     enum-known-ask
     answer-ask-requires
     enum-known-why
-    slice-aggregate-write-answer
-    write-answer-requires
+    answer-refused-requires
     same-length
     returns
     same-length-2

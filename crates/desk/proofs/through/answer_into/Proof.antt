@@ -1,10 +1,11 @@
--- `route::asks::answer_into` meets its contract.
+-- `desk::through::answer_into` meets its contract: 305 bytes are left, so that the line is not refused.
 -- Assumes nothing.
 use native.Mathlib.Omega.{arith}
+use denote.Ref.{now}
 use borrow.Author.Needs.{needs}
-use Rattle.desk.proofs.DeskLaws.{answers-fit}
-use Rattle.route.proofs.asks.answer_into.Statement.{statement}
-use Rattle.route.proofs.asks.answer_into.Tie as tie
+use Rattle.desk.proofs.ThroughCode.{answered-into, never-refused}
+use Rattle.desk.proofs.through.answer_into.Statement.{statement}
+use Rattle.desk.proofs.through.answer_into.Tie as tie
 
 sub-answer-line : tie.Need-sub-answer-line
 sub-answer-line c = search needs
@@ -24,7 +25,9 @@ enum-known-length c = search needs
 add-result : tie.Need-add-result
 add-result c =
     let at-answer = c .before .before .before .before .before .answer-line in
-    omega (arith, answers-fit (rw (c .before .length .given .1) at (at-answer .ensures)))
+    let start = c .before .before .before .before .before .before .before .before .before .before .before in
+    let answered = answered-into (now (start .args .out)) (start .args .used) _ _ (omega arith) (at-answer .ensures) (c .before .length .given .1) in
+    omega (arith, answered .fits)
 
 enum-told : tie.Need-enum-told
 enum-told c = search needs
@@ -35,13 +38,17 @@ same-length c = search needs
 returns : tie.Need-returns
 returns c =
     let at-answer = c .before .before .before .before .before .answer-line in
-    omega (arith, answers-fit (rw (c .before .length .given .1) at (at-answer .ensures)))
+    let start = c .before .before .before .before .before .before .before .before .before .before .before in
+    answered-into (now (start .args .out)) (start .args .used) _ _ (omega arith) (at-answer .ensures) (c .before .length .given .1)
 
 same-length-2 : tie.Need-same-length-2
 same-length-2 c = search needs
 
 returns-2 : tie.Need-returns-2
-returns-2 c = search needs
+returns-2 c =
+    let at-answer = c .before .before .before .before .answer-line in
+    let start = c .before .before .before .before .before .before .before .before .before .before in
+    absurd (never-refused (now (start .args .out)) (start .args .used) _ _ (omega arith) (start .pre) (at-answer .ensures) (c .enum-told .given .1))
 
 pub answer-into-spec : {M : Type 1} → statement M
 answer-into-spec =

@@ -1,0 +1,3 @@
+-- What the proofs of the functions know.
+mod AsksCode
+mod RefusingCode
