@@ -1,46 +1,66 @@
 -- What the code that answers an input knows of the place and the line that are printed.
 --     none-yet          where nothing is printed
+--     joined            the parts printed so far, and one more
 --     line-most         the line there is one of the input's
---     part-from         the bytes used are the answers of the lines from there on
+--     used-within, part-from      the bytes used are the answers of the lines from there on
 --     further-from      the place and the line that are printed then
 -- Assumes nothing.
-use mathlib.Core.List.{List}
-use mathlib.Core.Path.{_≡_, ap, subst₂}
-use Prim.Native.Nat.{ℕ, _+_, _≤_, _<_}
+use mathlib.Core.List.{List, [], _++_}
+use mathlib.Core.Path.{_≡_, refl, sym, subst₂}
+use Prim.Native.Nat.{ℕ, _≤_, _<_}
 use native.Mathlib.Omega.{arith}
-use lib.ListN.{length, take, drop}
+use lib.ListN.{length, take}
 use Rattle.units.specs.Limits.{mostText}
-use Rattle.text.specs.Lines.{linesOf}
-use Rattle.desk_lines.specs.Through.{AnswersPart}
+use Rattle.text.specs.Lines.{glue}
+use Rattle.desk_lines.specs.Through.{none, AnswersPart}
 use Rattle.desk_lines.proofs.LineLaws.{lines-few, some-line}
-use Rattle.desk_lines.proofs.ThroughLaws.{part-left, lines-part, lines-length, lines-go-on}
+use Rattle.desk_lines.proofs.ThroughLaws.{part-left, parts-join, lines-part, lines-length, lines-go-on}
 use Rattle.desk.specs.Through.{longest, Says, AnswersFrom}
 use Rattle.desk.specs.declared.through.Reached.{Reached}
 use Rattle.desk.proofs.ThroughLaws.{from-lines}
+use Rattle.route.specs.Receipts.{Further}
+use Rattle.route.specs.declared.output.Receipt.{Receipt}
 
-module _ (input : List ℕ) where
-  same-left : {a b : ℕ} → a ≡ b → length (linesOf (drop a input)) ≡ length (linesOf (drop b input))
-  same-left e = ap (λ (i : ℕ). length (linesOf (drop i input))) e
+module _ (contacts : List ℕ) (m : ℕ) (ranges : List ℕ) (k : ℕ) (input : List ℕ) where
+  -- the answers from the first byte and the number 1 to the receipt's place
+  pub record SoFar (r : Receipt) : Type 0 where
+    pub bytes : List ℕ
+    pub part : AnswersPart (Says contacts m ranges k) input tt 0 1 tt (r .at) (r .line) bytes
+    pub refused : r .refused ≡ 0
 
-  pub none-yet : {at n : ℕ} → at ≡ 0 → n ≡ 1 → n + length (linesOf (drop at input)) ≡ 1 + length (linesOf input)
-  none-yet {at} ea en = let same : length (linesOf (drop at input)) ≡ length (linesOf input) = same-left ea in omega arith
+  pub none-yet : {r : Receipt} → r .refused ≡ 0 → r .at ≡ 0 → r .line ≡ 1 → SoFar r
+  unfolding glue
+  none-yet {r} e ea en = record {
+    bytes = [];
+    part =
+        subst₂ (λ (a b : ℕ). AnswersPart (Says contacts m ranges k) input tt 0 1 tt a b []) (sym ea) (sym en)
+        (record { lines = []; cut = refl; behind = omega arith; counted = omega arith; prints = none });
+    refused = e;
+  }
 
-  pub line-most : {at n : ℕ} → n + length (linesOf (drop at input)) ≡ 1 + length (linesOf input) → at < length input → n ≤ length input
-  line-most {at} e inside = omega (arith, e, some-line input at inside, lines-few input)
+  pub joined : {r s : Receipt} → SoFar r → Further contacts m ranges k input r s → SoFar s
+  joined f on = record { bytes = f .bytes ++ on .bytes; part = parts-join (f .part) (on .part); refused = on .refused }
 
-module _ {contacts : List ℕ} {m : ℕ} {ranges : List ℕ} {k : ℕ} {input : List ℕ} {at n at₀ n₀ : ℕ} {out : List ℕ} {r : Reached} {out′ : List ℕ}
-    (x : AnswersFrom contacts m ranges k input at n out r out′) (ea : at ≡ at₀) (en : n ≡ n₀) (few : length input ≤ mostText) (low : n₀ ≤ mostText) where
+  pub line-most : {r : Receipt} → SoFar r → r .at < length input → r .line ≤ length input
+  line-most {r} f inside = omega (arith, part-left (f .part), some-line input (r .at) inside, lines-few input)
+
+module _ (before : Receipt) {contacts : List ℕ} {m : ℕ} {ranges : List ℕ} {k : ℕ} {input : List ℕ} {at n : ℕ} {out : List ℕ} {r : Reached} {out′ : List ℕ}
+    (x : AnswersFrom contacts m ranges k input at n out r out′) (ea : at ≡ before .at) (en : n ≡ before .line) (few : length input ≤ mostText)
+    (low : before .line ≤ mostText) where
   pub used-within : r .used ≤ length out′
   used-within = let y = from-lines x few (omega arith) in omega (arith, y .fits, lines-length y)
 
-  pub part-from : AnswersPart (Says contacts m ranges k) input tt at₀ n₀ tt (r .at) (r .number) (take (r .used) out′)
+  pub part-from : AnswersPart (Says contacts m ranges k) input tt (before .at) (before .line) tt (r .at) (r .number) (take (r .used) out′)
   part-from =
       let y = from-lines x few (omega arith) in
       subst₂ (λ (a b : ℕ). AnswersPart (Says contacts m ranges k) input tt a b tt (r .at) (r .number) (take (r .used) out′)) ea en (lines-part y)
 
-  pub further-from : {at′ n′ : ℕ} → at₀ < length input → longest ≤ length out → at′ ≡ r .at → n′ ≡ r .number
-      → (at₀ < at′) × (n′ + length (linesOf (drop at′ input)) ≡ n₀ + length (linesOf (drop at₀ input)))
-  further-from inside room fa fn =
+  pub further-from : (after : Receipt) → before .at < length input → longest ≤ length out → after .refused ≡ 0 → after .at ≡ r .at → after .line ≡ r .number
+      → (before .at < after .at) × Further contacts m ranges k input before after
+  further-from after inside room e fa fn =
       let y = from-lines x few (omega arith) in
       let on = lines-go-on y (omega arith) room in
-      (omega (arith, on), omega (arith, part-left (y .part), same-left input ea, same-left input fa))
+      let part =
+      subst₂ (λ (a b : ℕ). AnswersPart (Says contacts m ranges k) input tt (before .at) (before .line) tt a b (take (r .used) out′)) (sym fa) (sym fn) part-from
+      in
+      (omega (arith, on), record { bytes = take (r .used) out′; part = part; refused = e })

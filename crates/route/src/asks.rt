@@ -9,13 +9,11 @@ use desk::answer_lines;
 use libc::STDIN_FILENO;
 use units::MOST_TEXT;
 use units::Refusal;
-ghost use mathlib.Core.Path.{_≡_};
-ghost use Prim.Native.Nat.{_+_, _≤_, _<_};
-ghost use lib.ListN.{length, drop};
+ghost use Prim.Native.Nat.{_≤_, _<_};
+ghost use lib.ListN.{length};
 ghost use Rattle.units.specs.Limits.{mostText};
-ghost use Rattle.text.specs.Lines.{linesOf};
 ghost use Rattle.desk.specs.Through.{longest};
-ghost use Rattle.route.specs.Receipts.{InputDone, ReadDone};
+ghost use Rattle.route.specs.Receipts.{Further, InputDone, ReadDone};
 
 // One byte more than the input may have, so that a longer one is seen to be too long.
 const INPUT: usize = MOST_TEXT + 1;
@@ -33,7 +31,7 @@ fn answer_some(
     out: &mut [u8],
 ) -> Receipt
     requires { ⌜ (length (now input) ≤ mostText) × (printed .at < length (now input)) × (printed .line ≤ mostText) × (longest ≤ length (now out)) ⌝ }
-    ensures { λ r. ⌜ (printed .at < r .at) × (r .line + length (linesOf (drop (r .at) (now (input .entry)))) ≡ printed .line + length (linesOf (drop (printed .at) (now (input .entry))))) × (r .refused ≡ 0) ⌝ }
+    ensures { λ r. ⌜ (printed .at < r .at) × Further (now (contacts .entry)) m (now (ranges .entry)) n (now (input .entry)) printed r ⌝ }
 {
     let at = printed_to(printed);
     let line = line_there(printed);
@@ -61,7 +59,7 @@ fn answer_each(
     out: &mut [u8],
 ) -> Receipt
     requires { ⌜ (length (now input) ≤ mostText) × (longest ≤ length (now out)) ⌝ }
-    ensures { λ r. ⌜ (length (now (input .entry)) ≤ r .at) × (r .refused ≡ 0) ⌝ }
+    ensures { λ r. ⌜ InputDone (now (contacts .entry)) m (now (ranges .entry)) n (now (input .entry)) r ⌝ }
 {
     let mut printed = none_printed();
     while printed_to(printed) < input.len() {
@@ -72,7 +70,7 @@ fn answer_each(
 
 // The asks of the input answered, or the input refused where it is too long.
 fn answer_all(contacts: &[u64], m: usize, ranges: &[u64], n: usize, input: &[u8]) -> Receipt
-    ensures { λ r. ⌜ InputDone (now (input .entry)) r ⌝ }
+    ensures { λ r. ⌜ InputDone (now (contacts .entry)) m (now (ranges .entry)) n (now (input .entry)) r ⌝ }
 {
     if MOST_TEXT < input.len() {
         return refuse(Refusal::LongText);
@@ -83,7 +81,7 @@ fn answer_all(contacts: &[u64], m: usize, ranges: &[u64], n: usize, input: &[u8]
 
 // Standard input, read to its end or to its first byte too many, and answered.
 pub fn answer_input(contacts: &[u64], m: usize, ranges: &[u64], n: usize) -> Receipt
-    ensures { λ r. ⌜ ReadDone r ⌝ }
+    ensures { λ r. ⌜ ReadDone (now (contacts .entry)) m (now (ranges .entry)) n r ⌝ }
 {
     let mut input = [0u8; INPUT];
     let length = io::read_full(STDIN_FILENO, &mut input);

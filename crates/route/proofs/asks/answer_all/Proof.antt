@@ -2,7 +2,7 @@
 -- Assumes nothing.
 use borrow.Author.Needs.{needs}
 use Rattle.units.specs.Limits.{mostText}
-use Rattle.route.specs.Receipts.{too-long, to-its-end}
+use Rattle.route.specs.Receipts.{too-long}
 use Rattle.route.proofs.asks.answer_all.Statement.{statement}
 use Rattle.route.proofs.asks.answer_all.Tie as tie
 
@@ -21,8 +21,7 @@ unfolding mostText
 answer-each-requires c κs = search needs
 
 returns-2 : tie.Need-returns-2
-unfolding mostText
-returns-2 c = let done = c .before .answer-each .ensures in to-its-end (c .before .before .before .if1 .left) (done .1) (done .0)
+returns-2 c = search needs
 
 pub answer-all-spec : {M : Type 1} → statement M
 answer-all-spec =

@@ -1,19 +1,19 @@
--- `route::asks::answer_each` meets its contract. The loop's invariant: the lines left are numbered on from those printed.
+-- `route::asks::answer_each` meets its contract. The loop's invariant: the parts printed so far are the answers from the first line on.
 -- Assumes nothing.
-use mathlib.Core.Path.{_≡_, refl, _∙_}
-use Prim.Native.Nat.{_+_, _-_, _<_}
+use mathlib.Core.Path.{_≡_, refl}
+use Prim.Native.Nat.{_-_, _<_}
 use native.Mathlib.Omega.{arith}
-use lib.ListN.{length, drop}
+use lib.ListN.{length}
 use denote.Ref.{now}
 use borrow.Author.Needs.{needs}
-use Rattle.text.specs.Lines.{linesOf}
-use Rattle.route.proofs.AsksCode.{none-yet, line-most}
+use Rattle.route.specs.Receipts.{to-its-end}
+use Rattle.route.proofs.AsksCode.{SoFar, none-yet, joined, line-most}
 use Rattle.route.proofs.asks.answer_each.Statement.{statement}
 use Rattle.route.proofs.asks.answer_each.Tie as tie
 
 abbrev Inv-loop : tie.InvT-loop
 Inv-loop contacts m ranges n input out₀ printed₀ out printed =
-    (printed .line + length (linesOf (drop (printed .at) input)) ≡ 1 + length (linesOf input)) × (printed .refused ≡ 0) × (length out ≡ length out₀)
+    SoFar contacts m ranges n input printed × (length out ≡ length out₀)
 
 abbrev μ-loop : tie.MeasureT-loop
 μ-loop contacts m ranges n input out₀ printed₀ out printed = length input - printed .at
@@ -22,10 +22,7 @@ none-printed-requires : tie.Need-none-printed-requires Inv-loop μ-loop
 none-printed-requires c κs = search needs
 
 loop-holds : tie.Need-loop-holds Inv-loop μ-loop
-loop-holds c =
-    let start = c .before .before .before .before .before in
-    let none = c .none-printed .ensures in
-    (none-yet (now (start .args .input)) (none .1) (none .2), none .0, refl)
+loop-holds c = let none = c .none-printed .ensures in (none-yet _ _ _ _ _ (none .0) (none .1) (none .2), refl)
 
 printed-to-requires : tie.Need-printed-to-requires Inv-loop μ-loop
 printed-to-requires c κs = search needs
@@ -39,8 +36,8 @@ answer-some-requires c κs =
     in (
       start .pre .0,
       inside,
-      omega (arith, line-most (now (start .args .input)) (at-loop .loop .inv .0) inside, start .pre .0),
-      omega (arith, at-loop .loop .inv .2, start .pre .1),
+      omega (arith, line-most _ _ _ _ _ (at-loop .loop .inv .0) inside, start .pre .0),
+      omega (arith, at-loop .loop .inv .1, start .pre .1),
     )
 
 loop-less : tie.Need-loop-less Inv-loop μ-loop
@@ -51,14 +48,16 @@ loop-less c =
 loop-again : tie.Need-loop-again Inv-loop μ-loop
 loop-again c =
     let inv = c .before .before .before .before .before .before .loop .inv in
-    let further = c .before .before .answer-some .ensures in
-    (further .1 ∙ inv .0, further .2, search needs)
+    (joined _ _ _ _ _ (inv .0) (c .before .before .answer-some .ensures .1), search needs)
 
 same-length : tie.Need-same-length Inv-loop μ-loop
-same-length c = c .before .before .loop .inv .2
+same-length c = c .before .before .loop .inv .1
 
 returns : tie.Need-returns Inv-loop μ-loop
-returns c = (omega (arith, c .if1 .left, c .before .printed-to .ensures), c .before .before .loop .inv .1)
+returns c =
+    let at-loop = c .before .before in
+    let far = at-loop .loop .inv .0 in
+    to-its-end (at-loop .before .before .before .before .before .before .pre .0) (far .refused) (far .part) (omega (arith, c .if1 .left, c .before .printed-to .ensures))
 
 pub answer-each-spec : {M : Type 1} → statement M
 answer-each-spec =

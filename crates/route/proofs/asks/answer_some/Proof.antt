@@ -20,7 +20,7 @@ slice-reshare-prefix-print-answers : tie.Need-slice-reshare-prefix-print-answers
 slice-reshare-prefix-print-answers c =
     let at-line = c .before .before .before .before in
     let start = at-line .before .before .before .before .before .before in
-    used-within (c .before .before .answer-lines .ensures) (at-line .before .printed-to .ensures) (at-line .line-there .ensures) (start .pre .0) (start .pre .2)
+    used-within (start .args .printed) (c .before .before .answer-lines .ensures) (at-line .before .printed-to .ensures) (at-line .line-there .ensures) (start .pre .0) (start .pre .2)
 
 slice-aggregate-print-answers : tie.Need-slice-aggregate-print-answers
 slice-aggregate-print-answers c = sym (length-take-le _ _ (slice-reshare-prefix-print-answers (c .before)))
@@ -29,7 +29,7 @@ print-answers-requires : tie.Need-print-answers-requires
 print-answers-requires c κs =
     let at-line = c .before .before .before .before .before in
     let start = at-line .before .before .before .before .before .before in
-    part-from (c .before .before .before .answer-lines .ensures) (at-line .before .printed-to .ensures) (at-line .line-there .ensures) (start .pre .0) (start .pre .2)
+    part-from (start .args .printed) (c .before .before .before .answer-lines .ensures) (at-line .before .printed-to .ensures) (at-line .line-there .ensures) (start .pre .0) (start .pre .2)
 
 same-length : tie.Need-same-length
 same-length c = search needs
@@ -39,11 +39,8 @@ returns c =
     let at-line = c .before .before .before .before .before .before in
     let start = at-line .before .before .before .before .before .before in
     let printed = c .print-answers .ensures in
-    let further =
-    further-from (c .before .before .before .before .answer-lines .ensures) (at-line .before .printed-to .ensures) (at-line .line-there .ensures) (start .pre .0)
-    (start .pre .2) (start .pre .1) (start .pre .3) (printed .1) (printed .2)
-    in
-    (further .0, further .1, printed .0)
+    further-from (start .args .printed) (c .before .before .before .before .answer-lines .ensures) (at-line .before .printed-to .ensures)
+    (at-line .line-there .ensures) (start .pre .0) (start .pre .2) (c .print-answers .result) (start .pre .1) (start .pre .3) (printed .0) (printed .1) (printed .2)
 
 pub answer-some-spec : {M : Type 1} → statement M
 answer-some-spec =
