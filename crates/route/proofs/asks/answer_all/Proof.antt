@@ -1,5 +1,6 @@
 -- `route::asks::answer_all` meets its contract.
 -- Assumes nothing.
+use native.Mathlib.Omega.{arith}
 use borrow.Author.Needs.{needs}
 use Rattle.units.specs.Limits.{mostText}
 use Rattle.route.specs.Receipts.{too-long}
@@ -11,7 +12,7 @@ refuse-requires c κs = search needs
 
 returns : tie.Need-returns
 unfolding mostText
-returns c = too-long (c .before .if1 .taken) (c .refuse .ensures)
+returns c = too-long (omega arith) (c .refuse .ensures)
 
 slice-aggregate-answer-each : tie.Need-slice-aggregate-answer-each
 slice-aggregate-answer-each c = search needs
