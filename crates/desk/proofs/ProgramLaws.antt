@@ -1,14 +1,16 @@
 -- What the program `route` prints.
 --     printed-determined      for a plan text and an input there is one output at the most
 --     runs-print              the calls that the program makes, one after the other, print it
+--     part-prints             so do parts of the answers, joined from the first byte and the number 1 up to the input's end
 --     wrote-line              the bytes that `write_answer` says it wrote are the answer's line
 -- Assumes nothing.
 use mathlib.Core.List.{List, []}
 use mathlib.Core.Path.{_≡_, refl, sym, ap, subst, subst₂}
-use Prim.Native.Nat.{ℕ}
+use Prim.Native.Nat.{ℕ, _≤_}
 use native.Mathlib.Omega.{arith}
 use lib.ListN.{length, take, drop}
 use lib.Seq.{take-at}
+use Rattle.units.specs.Limits.{mostText}
 use Rattle.units.specs.declared.Refusal.{Refusal}
 use Rattle.text.specs.Calls.{Reads}
 use Rattle.text.specs.Lines.{linesOf}
@@ -18,9 +20,9 @@ use Rattle.text.specs.declared.answer.Written.the-variants.{Length}
 use Rattle.text.proofs.Calls.{reads-determined}
 use Rattle.search.specs.declared.answer.Routed.{Routed}
 use Rattle.search.specs.declared.answer.Routed.the-variants.{Refused}
-use Rattle.desk_lines.specs.Through.{Prints}
+use Rattle.desk_lines.specs.Through.{Prints, AnswersPart}
 use Rattle.desk_lines.proofs.PrintLaws.{prints-determined}
-use Rattle.desk_lines.proofs.ThroughLaws.{all-printed}
+use Rattle.desk_lines.proofs.ThroughLaws.{part-whole, all-printed}
 use Rattle.desk.specs.Answers.{answerBytes, WritesAnswer, written}
 use Rattle.desk.specs.Program.{blankTable, Printed, plan-refused, input-refused, answered, Runs, stops-at-plan, stops-at-input, goes-through}
 use Rattle.desk.specs.Through.{Says}
@@ -67,3 +69,7 @@ module _ {text : List ℕ} where
     runs-print (stops-at-plan x w) = subst (Printed text input) (sym (wrote-line w)) (plan-refused x)
     runs-print (stops-at-input x h w) = subst (Printed text input) (sym (wrote-line w)) (input-refused x h)
     runs-print (goes-through x h c) = answered x h (all-printed c)
+
+    pub part-prints : {m n : ℕ} {contacts ranges : List ℕ} {to n′ : ℕ} {bytes : List ℕ} → Reads text blankTable blankTable (Rows m n) contacts ranges
+        → length input ≤ mostText → AnswersPart (Says contacts m ranges n) input tt 0 1 tt to n′ bytes → length input ≤ to → Printed text input bytes
+    part-prints x few p over = answered x few (part-whole p over)
