@@ -1,8 +1,7 @@
 -- `layers::rows::copy_row` meets its contract.
 -- Assumes nothing.
-use Prim.Native.Nat.{_+_, _-_, _≤_}
+use Prim.Native.Nat.{_-_, _≤_}
 use native.Mathlib.Omega.{arith}
-use borrow.Author.Needs.{needs}
 use Rattle.units.specs.Limits.{mostNodes}
 use Rattle.layers.proofs.CopyCode.{Copied, copied-none, copied-more, copied-all}
 use Rattle.layers.proofs.rows.copy_row.Statement.{statement}
