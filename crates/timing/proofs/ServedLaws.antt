@@ -1,10 +1,12 @@
--- One hop over a valid plan of which some volume is used, in the request's words alone: the contact's row of the plan, its light time by the ranges that
--- cover it, and what is left of its volume with its sign.
---     served-exactly      a contact of the plan as it serves an ask is good for the file exactly where it is so
+-- Hops and chains over a valid plan of which some volume is used, in the request's words alone: the contact's row of the plan, its light time by the
+-- ranges that cover it, and what is left of its volume with its sign.
+--     served-exactly            a contact of the plan as it serves an ask is good for the file exactly where it is so
+--     allowed-served-exactly    a chain is allowed exactly where each of its contacts is, from the source to the destination
 -- Assumes nothing.
+use mathlib.Core.List.{List}
 use mathlib.Core.Logic.{_↔_}
 use mathlib.Core.Path.{_≡_, subst}
-use Prim.Native.Nat.{ℕ, _+_, _-_, _≤_}
+use Prim.Native.Nat.{ℕ, suc, _+_, _-_, _≤_, _<_}
 use native.Mathlib.Omega.{arith}
 use lib.IntN.{pos}
 use lib.ListN.{length, getD}
@@ -20,8 +22,9 @@ use Rattle.plan.proofs.Ranging.{has-light-determined}
 use Rattle.service.specs.Service.{blank, leftOn, serviceOf, InPlan}
 use Rattle.service.proofs.LeftLaws.{left-serves}
 use Rattle.service.proofs.ServiceLaws.{service-has-light}
+use Rattle.timing.specs.Chain.{Allowed}
 use Rattle.timing.specs.Hop.{consumed, sent}
-use Rattle.timing.proofs.AllowedLaws.{IsLater, GoodHop}
+use Rattle.timing.proofs.AllowedLaws.{IsLater, GoodHop, nodeAt, Along, allowed-exactly}
 use Rattle.timing.proofs.Barred.{ToExcluded}
 use Rattle.timing.proofs.Rounding.{consumed-form}
 
@@ -82,4 +85,39 @@ module _ (p : Plan) (valid : Valid p) (used : ℕ → ℕ) (ask : Ask) (some-byt
             ready = g .ready;
           };
         },
+  )
+
+-- at least one contact; the file is ready at the source at the ask's time, each contact is good from where the one before it leads, and behind the last
+-- the file is ready at the destination at r. `ready k` is when it is ready before the contact at place k, counted from 0
+pub record ServedChain (p : Plan) (used : ℕ → ℕ) (ask : Ask) (chain : List ℕ) (r : ℕ) : Type 0 where
+  pub some-contact : 1 ≤ length chain
+  pub ready : ℕ → ℕ
+  pub begins : ready 0 ≡ ask .time .0
+  pub every : (k : ℕ) → k < length chain
+      → Serves p used ask (nodeAt (serviceOf p used) (ask .source .0) chain k) (ready k) (getD chain k 0) (ready (suc k))
+  pub leads : nodeAt (serviceOf p used) (ask .source .0) chain (length chain) ≡ ask .destination .0
+  pub ends : ready (length chain) ≡ r
+
+module _ (p : Plan) (valid : Valid p) (used : ℕ → ℕ) (ask : Ask) (some-bytes : 1 ≤ ask .size) (chain : List ℕ) (r : ℕ) where
+  pub allowed-served-exactly : Allowed (serviceOf p used) ask chain r ↔ ServedChain p used ask chain r
+  allowed-served-exactly = (
+    λ a.
+        let (some-contact, timed) = allowed-exactly (serviceOf p used) ask chain r .0 a in
+        let (ready, along) = timed in
+        record {
+          some-contact = some-contact;
+          ready = ready;
+          begins = along .begins;
+          every = λ k h. served-exactly p valid used ask some-bytes _ _ _ _ .0 (along .every k h);
+          leads = along .leads;
+          ends = along .ends;
+        },
+    λ s.
+        let along : Along (serviceOf p used) ask (ask .source .0) (ask .time .0) chain (s .ready) (ask .destination .0) r = record {
+          begins = s .begins;
+          every = λ k h. served-exactly p valid used ask some-bytes _ _ _ _ .1 (s .every k h);
+          leads = s .leads;
+          ends = s .ends;
+        } in
+        allowed-exactly (serviceOf p used) ask chain r .1 (s .some-contact, (s .ready, along)),
   )
