@@ -1,0 +1,80 @@
+-- `cases::calls::light_of` is safe and ends.
+-- Assumes nothing.
+use native.Mathlib.Omega.{arith}
+use borrow.Author.Tests.{not-false}
+use borrow.Author.Needs.{needs}
+use Rattle.units.specs.Limits.{mostContacts}
+use Rattle.plan.proofs.Lent.{contacts-counted}
+use Rattle.plan.proofs.Verdicts.{true-holds}
+use Rattle.cases.proofs.calls.light_of.Statement.{statement}
+use Rattle.cases.proofs.calls.light_of.Tie as tie
+
+is-plan-requires : tie.Need-is-plan-requires
+is-plan-requires c κs = search needs
+
+verdict-requires : tie.Need-verdict-requires
+verdict-requires c κs = search needs
+
+returns : tie.Need-returns
+returns c = search needs
+
+bad-requires : tie.Need-bad-requires
+bad-requires c κs = search needs
+
+returns-2 : tie.Need-returns-2
+returns-2 c = search needs
+
+bad-requires-2 : tie.Need-bad-requires-2
+bad-requires-2 c κs = search needs
+
+returns-3 : tie.Need-returns-3
+returns-3 c = search needs
+
+slice-aggregate-serve : tie.Need-slice-aggregate-serve
+slice-aggregate-serve c = search needs
+
+slice-aggregate-serve-2 : tie.Need-slice-aggregate-serve-2
+slice-aggregate-serve-2 c = search needs
+
+serve-requires : tie.Need-serve-requires
+unfolding mostContacts
+serve-requires c κs =
+    let at-if1 = c .before .before .before .before in
+    let plan = true-holds (at-if1 .before .is-plan .ensures) (not-false _ (at-if1 .if1 .left)) in
+    let few = contacts-counted _ _ _ _ plan in
+    (plan, omega (arith, few), omega (arith, few))
+
+slice-aggregate-light-numbered : tie.Need-slice-aggregate-light-numbered
+slice-aggregate-light-numbered c = search needs
+
+light-numbered-requires : tie.Need-light-numbered-requires
+unfolding mostContacts
+light-numbered-requires c κs =
+    let at-if1 = c .before .before .before .before .before .before .before .before in
+    let plan = true-holds (at-if1 .before .is-plan .ensures) (not-false _ (at-if1 .if1 .left)) in
+    (omega arith, omega (arith, contacts-counted _ _ _ _ plan))
+
+light-requires : tie.Need-light-requires
+light-requires c κs = search needs
+
+returns-4 : tie.Need-returns-4
+returns-4 c = search needs
+
+pub light-of-spec : {M : Type 1} → statement M
+light-of-spec =
+    tie.close
+    (tie.spec
+    is-plan-requires
+    verdict-requires
+    returns
+    bad-requires
+    returns-2
+    bad-requires-2
+    returns-3
+    slice-aggregate-serve
+    slice-aggregate-serve-2
+    serve-requires
+    slice-aggregate-light-numbered
+    light-numbered-requires
+    light-requires
+    returns-4)
