@@ -1,8 +1,13 @@
 // The calls, over lent tables and the numbers of a case.
-use crate::fields::is_word;
-use crate::long::million;
+use crate::chains;
 use crate::show;
-use search::route;
+use crate::tables::least;
+use crate::words::LIGHT;
+use crate::words::MILLION;
+use crate::words::PLACES;
+use crate::words::ROUTE;
+use crate::words::VALID;
+use crate::words::WALK;
 use units::Ask;
 use units::ContactNo;
 use units::MOST_CONTACTS;
@@ -18,162 +23,100 @@ pub const MOST: usize = 70;
 // The numbers of an ask.
 const ASK: usize = 6;
 // The most places lent.
-const PLACES: usize = 70;
+const MOST_LENT: usize = 70;
 
-pub enum Call {
-    Valid,
-    Light,
-    Walk,
-    Million,
-    Route,
-    Places,
-    Unknown,
-}
-
-// The call that a line's first field names, which ends there.
-pub fn call_of(line: &[u8], end: usize) -> Call
-    requires { ⌜ end ≤ length (now line) ⌝ }
-{
-    if is_word(line, end, b"valid") {
-        return Call::Valid;
+// Whether these are the numbers of a case of that call: there are as many, the contact is one of those that count,
+// and there are so many places to lend.
+pub fn is_case(word: u64, count: usize, words: &[u64; MOST], contacts: usize) -> bool {
+    match word {
+        VALID => count == 0,
+        LIGHT => (count == 1) & (0 < words[0]) & (words[0] <= contacts as u64),
+        WALK => ASK <= count,
+        MILLION => count == ASK,
+        ROUTE | PLACES => (count == ASK + 1) & (words[ASK] <= MOST_LENT as u64),
+        _ => false,
     }
-    if is_word(line, end, b"light") {
-        return Call::Light;
-    }
-    if is_word(line, end, b"walk") {
-        return Call::Walk;
-    }
-    if is_word(line, end, b"million") {
-        return Call::Million;
-    }
-    if is_word(line, end, b"route") {
-        return Call::Route;
-    }
-    if is_word(line, end, b"places") {
-        return Call::Places;
-    }
-    Call::Unknown
 }
 
 // The ask of the first six numbers.
-fn ask_of(numbers: &[u64]) -> Ask
-    requires { ⌜ 6 ≤ length (now numbers) ⌝ }
-{
+fn ask_of(words: &[u64; MOST]) -> Ask {
     Ask {
-        source: NodeNo(numbers[0]),
-        destination: NodeNo(numbers[1]),
-        time: Millis(numbers[2]),
-        size: numbers[3],
-        deadline: Millis(numbers[4]),
-        excluded: numbers[5],
+        source: NodeNo(words[0]),
+        destination: NodeNo(words[1]),
+        time: Millis(words[2]),
+        size: words[3],
+        deadline: Millis(words[4]),
+        excluded: words[5],
     }
 }
 
-fn valid(contacts: &[u64], m: usize, ranges: &[u64], n: usize, numbers: &[u64]) {
-    if numbers.len() != 0 {
-        show::bad();
-        return;
+// The number as one that a contact can have, which in a case it is.
+fn contact_no(n: u64) -> ContactNo
+    ensures { λ r. ⌜ (1 ≤ r .0) × (r .0 ≤ 512) ⌝ }
+{
+    if n == 0 {
+        return ContactNo(1);
     }
-    show::verdict(is_plan(contacts, m, ranges, n));
+    if 512 < n {
+        return ContactNo(512);
+    }
+    ContactNo(n)
 }
 
-fn light_of(contacts: &[u64], m: usize, ranges: &[u64], n: usize, no: u64) {
-    if !is_plan(contacts, m, ranges, n) {
+fn light(contacts: &[u64], m: usize, ranges: &[u64], n: usize, no: ContactNo)
+    requires { ⌜ (1 ≤ no .0) × (no .0 ≤ 512) ⌝ }
+{
+    if is_plan(contacts, m, ranges, n) {
+        let mut lights = [0u32; MOST_CONTACTS];
+        let mut lefts = [0u64; MOST_CONTACTS];
+        service::serve(contacts, m, ranges, n, &mut lights, &mut lefts);
+        show::light(service::light_numbered(&lights, no));
+    } else {
         show::verdict(false);
-        return;
     }
-    if no == 0 {
-        show::bad();
-        return;
-    }
-    if (m as u64) < no {
-        show::bad();
-        return;
-    }
-    let mut lights = [0u32; MOST_CONTACTS];
-    let mut lefts = [0u64; MOST_CONTACTS];
-    service::serve(contacts, m, ranges, n, &mut lights, &mut lefts);
-    show::light(service::light_numbered(&lights, ContactNo(no)));
-}
-
-fn light(contacts: &[u64], m: usize, ranges: &[u64], n: usize, numbers: &[u64]) {
-    if numbers.len() != 1 {
-        show::bad();
-        return;
-    }
-    light_of(contacts, m, ranges, n, numbers[0]);
 }
 
 // The chain is what stands behind the ask.
-fn walked(contacts: &[u64], m: usize, ranges: &[u64], n: usize, numbers: &[u64]) {
-    if numbers.len() < ASK {
-        show::bad();
-        return;
-    }
-    let ask = ask_of(numbers);
-    show::walked(walk(contacts, m, ranges, n, ask, &numbers[ASK..]));
-}
-
-fn walked_far(contacts: &[u64], m: usize, ranges: &[u64], n: usize, numbers: &[u64]) {
-    if numbers.len() != ASK {
-        show::bad();
-        return;
-    }
-    million(contacts, m, ranges, n, ask_of(numbers));
-}
-
-// A number that no contact has, for each place.
-fn mark(chain: &mut [u64]) {
-    let mut i = 0;
-    while i < chain.len() {
-        chain[i] = (i % 100) as u64 + 1000;
-        i += 1;
-    }
-}
-
-// The chain is lent.
-fn routed_in(
+fn walked(
     contacts: &[u64],
     m: usize,
     ranges: &[u64],
     n: usize,
     ask: Ask,
-    chain: &mut [u64],
-    shown: bool,
-) {
-    mark(chain);
-    let answer = route(contacts, m, ranges, n, ask, chain);
-    show::routed(answer, chain);
-    if shown {
-        show::places(chain);
-    }
+    words: &[u64],
+    count: usize,
+)
+    requires { ⌜ count ≤ length (now words) ⌝ }
+{
+    let from = least(ASK, count);
+    show::walked(walk(contacts, m, ranges, n, ask, &words[from..count]));
 }
 
-// As many places are lent as the number behind the ask says.
-fn routed(contacts: &[u64], m: usize, ranges: &[u64], n: usize, numbers: &[u64], shown: bool) {
-    if numbers.len() != ASK + 1 {
-        show::bad();
-        return;
-    }
-    let lent = numbers[ASK] as usize;
-    if PLACES < lent {
-        show::bad();
-        return;
-    }
-    let mut chain = [0u64; PLACES];
-    let ask = ask_of(numbers);
-    routed_in(contacts, m, ranges, n, ask, &mut chain[0..lent], shown);
+// So many places are lent.
+fn routed(contacts: &[u64], m: usize, ranges: &[u64], n: usize, ask: Ask, lent: u64, shown: bool) {
+    let places = least(lent as usize, MOST_LENT);
+    let mut chain = [0u64; MOST_LENT];
+    chains::routed(contacts, m, ranges, n, ask, &mut chain[0..places], shown);
 }
 
-// The answer of the call over the tables lent, and the line's end.
-pub fn answer(call: Call, contacts: &[u64], m: usize, ranges: &[u64], n: usize, numbers: &[u64]) {
-    match call {
-        Call::Valid => valid(contacts, m, ranges, n, numbers),
-        Call::Light => light(contacts, m, ranges, n, numbers),
-        Call::Walk => walked(contacts, m, ranges, n, numbers),
-        Call::Million => walked_far(contacts, m, ranges, n, numbers),
-        Call::Route => routed(contacts, m, ranges, n, numbers, false),
-        Call::Places => routed(contacts, m, ranges, n, numbers, true),
-        Call::Unknown => show::bad(),
+// The answer of a case, and the line's end.
+pub fn answer(
+    word: u64,
+    contacts: &[u64],
+    m: usize,
+    ranges: &[u64],
+    n: usize,
+    words: &[u64; MOST],
+    count: usize,
+)
+    requires { ⌜ count ≤ 70 ⌝ }
+{
+    let ask = ask_of(words);
+    match word {
+        VALID => show::verdict(is_plan(contacts, m, ranges, n)),
+        LIGHT => light(contacts, m, ranges, n, contact_no(words[0])),
+        WALK => walked(contacts, m, ranges, n, ask, words, count),
+        MILLION => chains::million(contacts, m, ranges, n, ask),
+        _ => routed(contacts, m, ranges, n, ask, words[ASK], word == PLACES),
     }
 }

@@ -1,12 +1,13 @@
 // The input, line by line.
-use crate::asked::step;
-use crate::tables::none;
+use crate::step::step;
+use crate::tables::NONE;
 use libc::STDIN_FILENO;
+ghost use mathlib.Core.Path.{_≡_};
 ghost use Prim.Native.Nat.{_≤_};
 ghost use lib.ListN.{length};
 
 const LINE_FEED: u8 = 10;
-// The most lines.
+// The most lines that are read.
 const MOST_LINES: usize = 1_000_000;
 
 // The next line's length without its line feed, and whether there was one.
@@ -15,9 +16,9 @@ struct Next {
     is_there: bool,
 }
 
-// Whether there is a byte more: it is then in `byte`.
-fn read(byte: &mut [u8; 1]) -> bool {
-    io::read_full(STDIN_FILENO, byte) == 1
+// Whether the line ends with what was read: no byte or one, and then which.
+fn is_end(got: usize, byte: u8) -> bool {
+    (got == 0) | (byte == LINE_FEED)
 }
 
 // The next line put at the start of `line`.
@@ -25,22 +26,16 @@ fn next_line(line: &mut [u8]) -> Next
     ensures { λ r. ⌜ r .length ≤ length (now (line .exit)) ⌝ }
 {
     let mut n: usize = 0;
-    let mut byte = [0u8; 1];
     while n < line.len() {
-        if !read(&mut byte) {
+        let after = n + 1;
+        let got = io::read_full(STDIN_FILENO, &mut line[n..after]);
+        if is_end(got, line[n]) {
             return Next {
                 length: n,
-                is_there: 0 < n,
+                is_there: (0 < got) | (0 < n),
             };
         }
-        if byte[0] == LINE_FEED {
-            return Next {
-                length: n,
-                is_there: true,
-            };
-        }
-        line[n] = byte[0];
-        n += 1;
+        n = after;
     }
     Next {
         length: n,
@@ -49,8 +44,10 @@ fn next_line(line: &mut [u8]) -> Next
 }
 
 // Every line, each read into `line`: one that is longer is taken in parts.
-pub fn all(line: &mut [u8], contacts: &mut [u64], ranges: &mut [u64]) {
-    let mut sizes = none();
+pub fn all(line: &mut [u8], tables: &mut [u64])
+    requires { ⌜ length (now tables) ≡ 5130 ⌝ }
+{
+    let mut sizes = NONE;
     let mut passed: usize = 0;
     while passed < MOST_LINES {
         let next = next_line(line);
@@ -58,7 +55,7 @@ pub fn all(line: &mut [u8], contacts: &mut [u64], ranges: &mut [u64]) {
             return;
         }
         let length = next.length;
-        sizes = step(&line[0..length], contacts, ranges, sizes);
+        sizes = step(&line[0..length], tables, sizes);
         passed += 1;
     }
 }

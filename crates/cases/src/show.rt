@@ -8,18 +8,14 @@ use units::place;
 use walk::Figures;
 use walk::Walked;
 
-fn write(bytes: &[u8]) {
-    io::write_all(STDOUT_FILENO, bytes);
-}
-
 // A line that is not understood.
 pub fn bad() {
-    write(b"\tbad line\n");
+    io::write_all(STDOUT_FILENO, b"\tbad line\n");
 }
 
 // A tab and a number.
 fn field(n: u64) {
-    write(b"\t");
+    io::write_all(STDOUT_FILENO, b"\t");
     io::print_decimal(STDOUT_FILENO, n);
 }
 
@@ -43,7 +39,7 @@ fn figures(f: Figures) {
 }
 
 fn refused(why: Refusal) {
-    write(b"\trefused");
+    io::write_all(STDOUT_FILENO, b"\trefused");
     field(number(why));
     field(place(why));
 }
@@ -51,9 +47,9 @@ fn refused(why: Refusal) {
 // What the test of a plan said.
 pub fn verdict(is_plan: bool) {
     if is_plan {
-        write(b"\tplan\n");
+        io::write_all(STDOUT_FILENO, b"\tplan\n");
     } else {
-        write(b"\tno plan\n");
+        io::write_all(STDOUT_FILENO, b"\tno plan\n");
     }
 }
 
@@ -61,9 +57,11 @@ pub fn verdict(is_plan: bool) {
 pub fn light(answer: Light) {
     match answer {
         Light::Of(light) => field(light.0),
-        Light::Unranged => write(b"\tunranged"),
+        Light::Unranged => {
+            io::write_all(STDOUT_FILENO, b"\tunranged");
+        }
     }
-    write(b"\n");
+    io::write_all(STDOUT_FILENO, b"\n");
 }
 
 // The four figures, or the number and the place.
@@ -72,28 +70,29 @@ pub fn walked(answer: Walked) {
         Walked::Carried(f) => figures(f),
         Walked::Refused(why) => refused(why),
     }
-    write(b"\n");
-}
-
-fn best(f: Figures, count: usize, chain: &[u64]) {
-    write(b"\troute");
-    figures(f);
-    field(count as u64);
-    fields(chain, count);
-}
-
-// The figures, the count and the chain, or the number and the place.
-pub fn routed(answer: Routed, chain: &[u64]) {
-    match answer {
-        Routed::Best(f, count) => best(f, count, chain),
-        Routed::Refused(why) => refused(why),
-    }
-    write(b"\n");
+    io::write_all(STDOUT_FILENO, b"\n");
 }
 
 // A line with every place of a lent chain.
-pub fn places(chain: &[u64]) {
-    write(b"places");
+fn places(chain: &[u64]) {
+    io::write_all(STDOUT_FILENO, b"places");
     fields(chain, chain.len());
-    write(b"\n");
+    io::write_all(STDOUT_FILENO, b"\n");
+}
+
+// The figures, the count and the chain, or the number and the place; and the places, where they are shown.
+pub fn routed(answer: Routed, chain: &[u64], shown: bool) {
+    match answer {
+        Routed::Best(f, count) => {
+            io::write_all(STDOUT_FILENO, b"\troute");
+            figures(f);
+            field(count as u64);
+            fields(chain, count);
+        }
+        Routed::Refused(why) => refused(why),
+    }
+    io::write_all(STDOUT_FILENO, b"\n");
+    if shown {
+        places(chain);
+    }
 }

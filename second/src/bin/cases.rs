@@ -124,15 +124,20 @@ impl Tables {
         }
     }
 
+    /// None where the number is no contact's that counts.
     fn light(&self, number: ContactNo) -> Option<String> {
-        let Ok(plan) = self.plan() else {
-            return Some("no plan".to_string());
-        };
-        let contact = plan.contacts().get(number.row()?)?;
-        match plan.light(contact) {
-            Some(light) => Some(light.0.to_string()),
-            None => Some("unranged".to_string()),
+        let row = number.row()?;
+        if number.0 > self.contacts.count {
+            return None;
         }
+        let told = match self.plan() {
+            Ok(plan) => match plan.light(&plan.contacts()[row]) {
+                Some(light) => light.0.to_string(),
+                None => "unranged".to_string(),
+            },
+            Err(_) => "no plan".to_string(),
+        };
+        Some(told)
     }
 
     fn walk(&self, ask: &[u64], chain: &[u64]) -> String {

@@ -9,13 +9,11 @@ use Rattle.cases.proofs.input.all.Statement.{statement}
 use Rattle.cases.proofs.input.all.Tie as tie
 
 abbrev Inv-loop : tie.InvT-loop
-Inv-loop line₀ contacts₀ ranges₀ sizes₀ passed₀ line contacts ranges sizes passed = (length line ≡ length line₀) × (length contacts ≡ length contacts₀) × (length ranges ≡ length ranges₀)
+Inv-loop line₀ tables₀ sizes₀ passed₀ line tables sizes passed =
+    (length line ≡ length line₀) × (length tables ≡ length tables₀)
 
 abbrev μ-loop : tie.MeasureT-loop
-μ-loop line₀ contacts₀ ranges₀ sizes₀ passed₀ line contacts ranges sizes passed = 1000000 - passed
-
-none-requires : tie.Need-none-requires Inv-loop μ-loop
-none-requires c κs = search needs
+μ-loop line₀ tables₀ sizes₀ passed₀ line tables sizes passed = 1000000 - passed
 
 loop-holds : tie.Need-loop-holds Inv-loop μ-loop
 loop-holds c = search needs
@@ -28,9 +26,6 @@ same-length c = search needs
 
 same-length-2 : tie.Need-same-length-2 Inv-loop μ-loop
 same-length-2 c = search needs
-
-same-length-3 : tie.Need-same-length-3 Inv-loop μ-loop
-same-length-3 c = search needs
 
 returns : tie.Need-returns Inv-loop μ-loop
 returns c = search needs
@@ -56,14 +51,11 @@ loop-less c = search needs
 loop-again : tie.Need-loop-again Inv-loop μ-loop
 loop-again c = search needs
 
+same-length-3 : tie.Need-same-length-3 Inv-loop μ-loop
+same-length-3 c = search needs
+
 same-length-4 : tie.Need-same-length-4 Inv-loop μ-loop
 same-length-4 c = search needs
-
-same-length-5 : tie.Need-same-length-5 Inv-loop μ-loop
-same-length-5 c = search needs
-
-same-length-6 : tie.Need-same-length-6 Inv-loop μ-loop
-same-length-6 c = search needs
 
 returns-2 : tie.Need-returns-2 Inv-loop μ-loop
 returns-2 c = search needs
@@ -74,12 +66,10 @@ all-spec =
     (tie.spec
     Inv-loop
     μ-loop
-    none-requires
     loop-holds
     next-line-requires
     same-length
     same-length-2
-    same-length-3
     returns
     sub-step
     part-step-start
@@ -88,7 +78,6 @@ all-spec =
     add-passed
     loop-less
     loop-again
+    same-length-3
     same-length-4
-    same-length-5
-    same-length-6
     returns-2)

@@ -2,23 +2,41 @@
 -- Assumes nothing.
 use mathlib.Core.Path.{_≡_}
 use Prim.Native.Nat.{_≤_, _-_}
-use lib.ListN.{length, length-set}
+use lib.ListN.{length}
 use native.Mathlib.Omega.{arith}
 use borrow.Author.Needs.{needs}
 use Rattle.cases.proofs.input.next_line.Statement.{statement}
 use Rattle.cases.proofs.input.next_line.Tie as tie
 
 abbrev Inv-loop : tie.InvT-loop
-Inv-loop line₀ n₀ byte₀ line n byte = (n ≤ length line) × (length line ≡ length line₀)
+Inv-loop line₀ n₀ line n = (n ≤ length line) × (length line ≡ length line₀)
 
 abbrev μ-loop : tie.MeasureT-loop
-μ-loop line₀ n₀ byte₀ line n byte = length line - n
+μ-loop line₀ n₀ line n = length line - n
 
 loop-holds : tie.Need-loop-holds Inv-loop μ-loop
 loop-holds c = search needs
 
-read-requires : tie.Need-read-requires Inv-loop μ-loop
-read-requires c κs = search needs
+add-after : tie.Need-add-after Inv-loop μ-loop
+add-after c = search needs
+
+sub-read-full : tie.Need-sub-read-full Inv-loop μ-loop
+sub-read-full c = search needs
+
+part-read-full-start : tie.Need-part-read-full-start Inv-loop μ-loop
+part-read-full-start c = search needs
+
+part-read-full-end : tie.Need-part-read-full-end Inv-loop μ-loop
+part-read-full-end c = search needs
+
+read-full-requires : tie.Need-read-full-requires Inv-loop μ-loop
+read-full-requires c κs = search needs
+
+slice-read-is-end : tie.Need-slice-read-is-end Inv-loop μ-loop
+slice-read-is-end c = search needs
+
+is-end-requires : tie.Need-is-end-requires Inv-loop μ-loop
+is-end-requires c κs = search needs
 
 same-length : tie.Need-same-length Inv-loop μ-loop
 same-length c = search needs
@@ -26,35 +44,17 @@ same-length c = search needs
 returns : tie.Need-returns Inv-loop μ-loop
 returns c = search needs
 
-array-read-if2 : tie.Need-array-read-if2 Inv-loop μ-loop
-array-read-if2 c = search needs
+loop-less : tie.Need-loop-less Inv-loop μ-loop
+loop-less c = search needs
+
+loop-again : tie.Need-loop-again Inv-loop μ-loop
+loop-again c = search needs
 
 same-length-2 : tie.Need-same-length-2 Inv-loop μ-loop
 same-length-2 c = search needs
 
 returns-2 : tie.Need-returns-2 Inv-loop μ-loop
 returns-2 c = search needs
-
-array-read-line : tie.Need-array-read-line Inv-loop μ-loop
-array-read-line c = search needs
-
-slice-write-line : tie.Need-slice-write-line Inv-loop μ-loop
-slice-write-line c = search needs
-
-add-n : tie.Need-add-n Inv-loop μ-loop
-add-n c = search needs
-
-loop-less : tie.Need-loop-less Inv-loop μ-loop
-loop-less c = simp length-set (omega arith)
-
-loop-again : tie.Need-loop-again Inv-loop μ-loop
-loop-again c = simp length-set (omega arith, omega arith)
-
-same-length-3 : tie.Need-same-length-3 Inv-loop μ-loop
-same-length-3 c = search needs
-
-returns-3 : tie.Need-returns-3 Inv-loop μ-loop
-returns-3 c = search needs
 
 pub next-line-spec : {M : Type 1} → statement M
 next-line-spec =
@@ -63,16 +63,16 @@ next-line-spec =
     Inv-loop
     μ-loop
     loop-holds
-    read-requires
+    add-after
+    sub-read-full
+    part-read-full-start
+    part-read-full-end
+    read-full-requires
+    slice-read-is-end
+    is-end-requires
     same-length
     returns
-    array-read-if2
-    same-length-2
-    returns-2
-    array-read-line
-    slice-write-line
-    add-n
     loop-less
     loop-again
-    same-length-3
-    returns-3)
+    same-length-2
+    returns-2)

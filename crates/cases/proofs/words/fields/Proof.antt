@@ -1,11 +1,11 @@
--- `cases::fields::fields` is safe and ends. The loop's invariant: there are no more tabs than bytes passed.
+-- `cases::words::fields` is safe and ends. The loop's invariant: there are no more tabs than bytes passed.
 -- Assumes nothing.
 use Prim.Native.Nat.{_≤_, _-_}
 use lib.ListN.{length}
 use native.Mathlib.Omega.{arith}
 use borrow.Author.Needs.{needs}
-use Rattle.cases.proofs.fields.fields.Statement.{statement}
-use Rattle.cases.proofs.fields.fields.Tie as tie
+use Rattle.cases.proofs.words.fields.Statement.{statement}
+use Rattle.cases.proofs.words.fields.Tie as tie
 
 abbrev Inv-loop : tie.InvT-loop
 Inv-loop line from n₀ i₀ n i = n ≤ i

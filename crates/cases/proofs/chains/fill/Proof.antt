@@ -1,24 +1,24 @@
--- `cases::calls::mark` is safe and ends. The loop's invariant: the chain keeps its length.
+-- `cases::chains::fill` is safe and ends. The loop's invariant: the chain keeps its length.
 -- Assumes nothing.
 use mathlib.Core.Path.{_≡_}
 use Prim.Native.Nat.{_-_}
 use lib.ListN.{length, length-set}
 use native.Mathlib.Omega.{arith}
 use borrow.Author.Needs.{needs}
-use Rattle.cases.proofs.calls.mark.Statement.{statement}
-use Rattle.cases.proofs.calls.mark.Tie as tie
+use Rattle.cases.proofs.chains.fill.Statement.{statement}
+use Rattle.cases.proofs.chains.fill.Tie as tie
 
 abbrev Inv-loop : tie.InvT-loop
-Inv-loop chain₀ i₀ chain i = length chain ≡ length chain₀
+Inv-loop chain₀ to-and-fro i₀ chain i = length chain ≡ length chain₀
 
 abbrev μ-loop : tie.MeasureT-loop
-μ-loop chain₀ i₀ chain i = length chain - i
+μ-loop chain₀ to-and-fro i₀ chain i = length chain - i
 
 loop-holds : tie.Need-loop-holds Inv-loop μ-loop
 loop-holds c = search needs
 
-add-chain : tie.Need-add-chain Inv-loop μ-loop
-add-chain c = search needs
+number-at-requires : tie.Need-number-at-requires Inv-loop μ-loop
+number-at-requires c κs = search needs
 
 mul-chain : tie.Need-mul-chain Inv-loop μ-loop
 mul-chain c = search needs
@@ -41,14 +41,14 @@ same-length c = search needs
 returns : tie.Need-returns Inv-loop μ-loop
 returns c = search needs
 
-pub mark-spec : {M : Type 1} → statement M
-mark-spec =
+pub fill-spec : {M : Type 1} → statement M
+fill-spec =
     tie.close
     (tie.spec
     Inv-loop
     μ-loop
     loop-holds
-    add-chain
+    number-at-requires
     mul-chain
     slice-write-chain
     add-i
