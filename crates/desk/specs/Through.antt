@@ -24,8 +24,8 @@ module _ (contacts : List ℕ) (m : ℕ) (ranges : List ℕ) (k : ℕ) where
   pub data Says (s : Unit {0}) (l : Line) (n : ℕ) : List ℕ → Unit {0} → Type 0 where
     says : {answer : Routed} {chain : List ℕ} → Replies contacts m ranges k l n answer chain → Says s l n (answerBytes answer chain) s
 
-  -- an input over 65,536 bytes, or a line number that no smaller one has, is not gone through: the place stays, and no byte changes; else the lines from
-  -- byte `at` on are, the first of which has the place n in the input
+  -- an input over 65,536 bytes is not gone through, nor one from a line number above that, which no shorter input has: the place stays, and no byte
+  -- changes. Else the lines from byte `at` on are, the first of which has the place n in the input
   pub data AnswersFrom (input : List ℕ) (at n : ℕ) (out : List ℕ) : Reached → List ℕ → Type 0 where
     not-taken : (mostText < length input) ⊎ (mostText < n) → AnswersFrom input at n out (record { at = at; number = n; used = 0 }) out
     taken : {r : Reached} {out′ : List ℕ} → length input ≤ mostText → n ≤ mostText

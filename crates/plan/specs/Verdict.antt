@@ -1,5 +1,4 @@
--- What the answer of a test says of a statement: true where it holds, and false where it does not. Only functions inside the calls cite it: a reader
--- of the promises may skip it.
+-- What the answer of a test says of a statement: true where it holds, and false where it does not.
 -- Assumes nothing.
 use mathlib.Core.Bool.{Bool, true, false}
 
