@@ -12,9 +12,9 @@ use Rattle.text.proofs.Calls.{reads-determined}
 use Rattle.text.proofs.RoundTrip.{writes-determined}
 use Rattle.walk.proofs.Theorems.{walks-determined}
 use Rattle.search.proofs.Theorems.{routes-determined}
-use Rattle.booking.proofs.BookingLaws.{walks-booked-determined, routes-booked-determined}
-use Rattle.placing.proofs.Theorems.{books-route-determined, releases-determined}
-use Rattle.face.specs.Layout.{readWords, writtenWords, walkedWords, routedWords, placedWords, releasedWords, Answered}
+use Rattle.calls.proofs.BookingLaws.{walks-booked-determined, routes-booked-determined}
+use Rattle.calls_book.proofs.Theorems.{books-route-determined, releases-determined}
+use Rattle.board_face.specs.Layout.{readWords, writtenWords, walkedWords, routedWords, placedWords, releasedWords, Answered}
 use Rattle.board.specs.Booked.{BoardWalksBooked, BoardRoutesBooked, BoardBooks, BoardReleases, no-room, called}
 use Rattle.board.specs.Faces.{BoardReads, BoardWrites, BoardWalks, BoardRoutes, no-room, called}
 

@@ -12,11 +12,11 @@ use lib.ListN.{length}
 use Rattle.units.specs.declared.Ask.{Ask}
 use Rattle.walk.specs.declared.figures.Walked.{Walked}
 use Rattle.search.specs.declared.answer.Routed.{Routed}
-use Rattle.booking.specs.Calls.{WalksBooked, RoutesBooked}
-use Rattle.placing.specs.declared.answers.Placed.{Placed}
-use Rattle.placing.specs.declared.answers.Released.{Released}
-use Rattle.placing.specs.Placing.{BooksRoute, Releases}
-use Rattle.face.specs.Layout.{answerWords, bookedWords, noRoom, walkedWords, routedWords, placedWords, releasedWords, Answered}
+use Rattle.calls.specs.Calls.{WalksBooked, RoutesBooked}
+use Rattle.calls_book.specs.declared.answers.Placed.{Placed}
+use Rattle.calls_book.specs.declared.answers.Released.{Released}
+use Rattle.calls_book.specs.Placing.{BooksRoute, Releases}
+use Rattle.board_face.specs.Layout.{answerWords, bookedWords, noRoom, walkedWords, routedWords, placedWords, releasedWords, Answered}
 
 module _ (contacts : List ℕ) (m : ℕ) (ranges : List ℕ) (n : ℕ) (book booked : List ℕ) where
   pub data BoardWalksBooked (ask : Ask) (class : ℕ) (chain answer : List ℕ) : ℕ → List ℕ → Type 0 where

@@ -17,7 +17,7 @@ use Rattle.walk.specs.declared.figures.Walked.{Walked}
 use Rattle.walk.specs.Walk.{Walks}
 use Rattle.search.specs.declared.answer.Routed.{Routed}
 use Rattle.search.specs.Route.{Routes}
-use Rattle.face.specs.Layout.{answerWords, noRoom, readWords, writtenWords, walkedWords, routedWords, Answered}
+use Rattle.board_face.specs.Layout.{answerWords, noRoom, readWords, writtenWords, walkedWords, routedWords, Answered}
 
 pub data BoardReads (text contacts ranges answer : List ℕ) : ℕ → List ℕ → List ℕ → List ℕ → Type 0 where
   no-room : length answer < answerWords → BoardReads text contacts ranges answer noRoom contacts ranges answer

@@ -1,10 +1,10 @@
 // `book_route` as a C function.
-use face::BOOKED_WORDS;
-use face::ask_of;
-use face::no_room;
-use face::put_placed;
-use placing::book_route;
-ghost use Rattle.face.specs.Asked.{asked};
+use board_face::BOOKED_WORDS;
+use board_face::ask_of;
+use board_face::no_room;
+use board_face::put_placed;
+use calls_book::book_route;
+ghost use Rattle.board_face.specs.Asked.{asked};
 ghost use Rattle.board.specs.Booked.{BoardBooks};
 
 // Finds the best chain for the ask that the six numbers are, of that class, over the plan with its book, and

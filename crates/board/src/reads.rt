@@ -1,8 +1,8 @@
 // `read` as a C function.
-use face::ANSWER_WORDS;
-use face::no_room;
-use face::put_read;
-use parse::read;
+use board_face::ANSWER_WORDS;
+use board_face::no_room;
+use board_face::put_read;
+use text_read::read;
 ghost use Rattle.board.specs.Faces.{BoardReads};
 
 // Reads the plan that the text is into the lent tables.

@@ -1,8 +1,8 @@
 // `release` as a C function.
-use face::ANSWER_WORDS;
-use face::no_room;
-use face::put_released;
-use placing::release;
+use board_face::ANSWER_WORDS;
+use board_face::no_room;
+use board_face::put_released;
+use calls_book::release;
 ghost use Rattle.board.specs.Booked.{BoardReleases};
 
 // Frees the place of that number, counted from 1, where it is open.

@@ -1,10 +1,10 @@
 // `route` as a C function.
-use face::ANSWER_WORDS;
-use face::ask_of;
-use face::no_room;
-use face::put_routed;
+use board_face::ANSWER_WORDS;
+use board_face::ask_of;
+use board_face::no_room;
+use board_face::put_routed;
 use search::route;
-ghost use Rattle.face.specs.Asked.{asked};
+ghost use Rattle.board_face.specs.Asked.{asked};
 ghost use Rattle.board.specs.Faces.{BoardRoutes};
 
 // Finds the best chain for the ask that the six numbers are.

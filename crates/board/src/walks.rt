@@ -1,10 +1,10 @@
 // `walk` as a C function.
-use face::ANSWER_WORDS;
-use face::ask_of;
-use face::no_room;
-use face::put_walked;
+use board_face::ANSWER_WORDS;
+use board_face::ask_of;
+use board_face::no_room;
+use board_face::put_walked;
 use walk::walk;
-ghost use Rattle.face.specs.Asked.{asked};
+ghost use Rattle.board_face.specs.Asked.{asked};
 ghost use Rattle.board.specs.Faces.{BoardWalks};
 
 // Times the chain given for the ask that the six numbers are.

@@ -1,10 +1,10 @@
 // `walk_booked` as a C function.
-use booking::walk_booked;
-use face::ANSWER_WORDS;
-use face::ask_of;
-use face::no_room;
-use face::put_walked;
-ghost use Rattle.face.specs.Asked.{asked};
+use board_face::ANSWER_WORDS;
+use board_face::ask_of;
+use board_face::no_room;
+use board_face::put_walked;
+use calls::walk_booked;
+ghost use Rattle.board_face.specs.Asked.{asked};
 ghost use Rattle.board.specs.Booked.{BoardWalksBooked};
 
 // Times the chain given for the ask that the six numbers are, of that class, over the plan with its book.

@@ -1,8 +1,8 @@
 // `write` as a C function.
-use face::ANSWER_WORDS;
-use face::no_room;
-use face::put_written;
-use print::write;
+use board_face::ANSWER_WORDS;
+use board_face::no_room;
+use board_face::put_written;
+use text_write::write;
 ghost use Rattle.board.specs.Faces.{BoardWrites};
 
 // Writes the text of the plan that the tables hold.

@@ -15,7 +15,7 @@
 //
 // A call is lent the words that were put, and no more. What is no such line is answered by `bad line`. The same lines
 // are answered by second/src/bin/cases.rs.
-mod calls;
+mod answering;
 mod chains;
 mod input;
 mod show;

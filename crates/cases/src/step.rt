@@ -1,7 +1,7 @@
 // What a line does: it changes the tables, or is a case over them.
-use crate::calls::MOST;
-use crate::calls::answer;
-use crate::calls::is_case;
+use crate::answering::MOST;
+use crate::answering::answer;
+use crate::answering::is_case;
 use crate::show::bad;
 use crate::tables::HALF;
 use crate::tables::NONE;
@@ -18,8 +18,8 @@ use crate::words::after;
 use crate::words::field;
 use crate::words::fields;
 use libc::STDOUT_FILENO;
-use lines::numbers;
 use plan::WORDS;
+use text_lines::numbers;
 ghost use mathlib.Core.Path.{_≡_};
 ghost use Prim.Native.Nat.{_≤_};
 ghost use lib.ListN.{length};

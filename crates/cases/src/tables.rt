@@ -1,7 +1,7 @@
 // The two tables of a plan in one: the contacts stand in the first half, and the ranges in the second.
 use crate::show::bad;
 use crate::words::fields;
-use lines::numbers;
+use text_lines::numbers;
 ghost use mathlib.Core.Path.{_≡_};
 ghost use Prim.Native.Nat.{_≤_};
 ghost use lib.ListN.{length};

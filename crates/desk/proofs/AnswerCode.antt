@@ -21,8 +21,8 @@ use Rattle.text.specs.Lines.{lineFeed, glueFields, glueLine}
 use Rattle.text.specs.Rows.{lineOf}
 use Rattle.text.specs.declared.answer.Written.{Written}
 use Rattle.text.specs.declared.answer.Written.the-variants.{Length, Refused as NotWritten}
-use Rattle.print.specs.Model.{Wrote, wordsFrom, fieldBytes}
-use Rattle.print.proofs.PutCode.{wrote-front, Onward, onward-start, onward-room, onward-step, onward-as}
+use Rattle.text_write.specs.Model.{Wrote, wordsFrom, fieldBytes}
+use Rattle.text_write.proofs.PutCode.{wrote-front, Onward, onward-start, onward-room, onward-step, onward-as}
 use Rattle.walk.specs.declared.figures.Figures.{Figures}
 use Rattle.search.specs.declared.answer.Routed.{Routed}
 use Rattle.search.specs.declared.answer.Routed.the-variants.{Best, Refused}

@@ -27,9 +27,9 @@ use Rattle.text.specs.Model.{lineIn, upTo, same, isNumber, isShaped, capped}
 use Rattle.text.specs.Rows.{Shaped}
 use Rattle.text.proofs.Digits.{decimal-value}
 use Rattle.text.proofs.Shapes.{number-tells, shaped-tells}
-use Rattle.lines.specs.Model.{cappedValue, fieldsFrom, goodFields}
-use Rattle.lines.proofs.BytesCode.{same-unlike}
-use Rattle.lines.proofs.LineCode.{capped-word, fields-are, shape-is}
+use Rattle.text_lines.specs.Model.{cappedValue, fieldsFrom, goodFields}
+use Rattle.text_lines.proofs.BytesCode.{same-unlike}
+use Rattle.text_lines.proofs.LineCode.{capped-word, fields-are, shape-is}
 use Rattle.walk.specs.Model.{goodAsk}
 use Rattle.walk.specs.Walk.{GoodAsk}
 use Rattle.walk.proofs.WalkCode.{goodAsk-tells}

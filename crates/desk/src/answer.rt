@@ -1,10 +1,10 @@
 // The public call `write_answer`: an answer's line.
-use print::fields_length;
-use print::put_byte;
-use print::put_bytes;
-use print::put_fields;
 use search::Routed;
 use text::Written;
+use text_write::fields_length;
+use text_write::put_byte;
+use text_write::put_bytes;
+use text_write::put_fields;
 use units::MOST_CHAIN;
 use units::Refusal;
 use units::number;
@@ -15,7 +15,7 @@ ghost use mathlib.Core.Path.{_≡_};
 ghost use Prim.Native.Nat.{_≤_};
 ghost use lib.ListN.{length};
 ghost use Rattle.units.specs.Limits.{mostChain};
-ghost use Rattle.print.specs.Model.{Wrote};
+ghost use Rattle.text_write.specs.Model.{Wrote};
 ghost use Rattle.search.specs.declared.answer.Routed.the-variants.{Best, Refused};
 ghost use Rattle.desk.specs.Answers.{answerBytes, WritesAnswer};
 ghost use Rattle.desk.specs.Writing.{lineBytes, WritesLine};

@@ -2,13 +2,13 @@
 use crate::answer::write_answer;
 use crate::ask::AskRead;
 use crate::ask::read_ask;
+use plan_valid::is_plan;
 use search::Routed;
 use search::route;
 use text::Written;
 use units::Ask;
 use units::MOST_CHAIN;
 use units::Refusal;
-use validity::is_plan;
 ghost use Rattle.text.specs.Model.{lineIn};
 ghost use Rattle.desk.specs.Answering.{AnswersAsk, AnswersRefusal};
 ghost use Rattle.desk.specs.Desk.{Answers};

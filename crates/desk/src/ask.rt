@@ -1,7 +1,7 @@
 // An ask line.
-use lines::find;
-use lines::is_same;
-use lines::numbers;
+use text_lines::find;
+use text_lines::is_same;
+use text_lines::numbers;
 use units::Ask;
 use units::Millis;
 use units::NodeNo;
@@ -13,7 +13,7 @@ ghost use mathlib.Core.Path.{_≡_};
 ghost use lib.ListN.{length};
 ghost use Rattle.text.specs.Lines.{tab};
 ghost use Rattle.text.specs.Model.{lineIn, isShaped};
-ghost use Rattle.lines.specs.Model.{cappedValue};
+ghost use Rattle.text_lines.specs.Model.{cappedValue};
 ghost use Rattle.desk.specs.AskModel.{endsIn, mostDigits, goodExcluded, judgedAsk};
 ghost use Rattle.desk.specs.Asks.{askWord, askNumbers, askOfNumbers, ReadsAsk};
 

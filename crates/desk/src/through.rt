@@ -1,8 +1,8 @@
 // The public call `answer_lines`: the lines of an input answered into lent bytes, as many as these have
 // room for.
 use crate::answering::answer_line;
-use lines::find;
 use text::Written;
+use text_lines::find;
 use units::MOST_TEXT;
 ghost use mathlib.Core.Path.{_≡_};
 ghost use Prim.Native.Nat.{_+_, _≤_, min};

@@ -4,8 +4,8 @@ mod output;
 mod refusing;
 
 use output::Receipt;
-use parse::read;
 use text::PlanRead;
+use text_read::read;
 use units::MOST_TEXT;
 ghost use Rattle.io.specs.Counts.{Counts};
 ghost use Rattle.route.specs.Receipts.{PlanDone};

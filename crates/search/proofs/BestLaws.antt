@@ -17,11 +17,11 @@ use Rattle.walk.specs.Walk.{GoodAsk}
 use Rattle.network.specs.Best.{Reaches, Best}
 use Rattle.network.proofs.Theorems.{best-short}
 use Rattle.network.proofs.Unique.{First, first-unique}
-use Rattle.layers.specs.Bridge.{networkOf}
-use Rattle.layers.specs.Bridge.{goal}
+use Rattle.search_layers.specs.Bridge.{networkOf}
+use Rattle.search_layers.specs.Bridge.{goal}
 use Rattle.search.specs.Route.{IsBest}
 use Rattle.search.proofs.Chains.{allowed-reaches}
-use Rattle.layers.proofs.NetworkLaws.{network-laws}
+use Rattle.search_layers.proofs.NetworkLaws.{network-laws}
 
 pub is-best-unique : {p : Service} {ask : Ask} {c₁ c₂ : List ℕ} {r₁ r₂ : ℕ} → IsBest p ask c₁ r₁ → IsBest p ask c₂ r₂ → (c₁ ≡ c₂) × (r₁ ≡ r₂)
 is-best-unique {p} {ask} b₁ b₂ = first-unique (Allowed p ask) _ _ _ _ (first b₁) (first b₂)

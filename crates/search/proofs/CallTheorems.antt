@@ -1,6 +1,7 @@
 -- Where a route is refused with 13 or 14: first of the answer over a plan as it serves the ask, then of the call, for tables that hold a plan, a good
 -- ask between two nodes and a lent chain with its 63 places.
 --     refused-late-exactly         refused with 13 or 14 exactly where no allowed chain of any length is in time
+--     routes-at-deadline           a best chain that delivers at the deadline is refused with 14
 --     routes-13-exactly            the call is refused with 13 exactly where no chain of any length is allowed
 --     routes-14-exactly            with 14 exactly where one is allowed and none is in time
 --     routes-late-exactly          with one of the two exactly where none is in time
@@ -20,7 +21,7 @@ use Rattle.service.specs.Service.{Service, serviceOf, unused}
 use Rattle.timing.specs.Chain.{Allowed}
 use Rattle.walk.specs.Walk.{GoodAsk}
 use Rattle.walk.specs.declared.figures.Figures.{Figures}
-use Rattle.search.specs.Route.{RoutesPlan, no-chain, too-late, best, Routes, short-chain, no-plan, bad-ask, same-node, routed}
+use Rattle.search.specs.Route.{IsBest, RoutesPlan, no-chain, too-late, best, Routes, short-chain, no-plan, bad-ask, same-node, routed}
 use Rattle.search.specs.declared.answer.Routed.{Routed}
 use Rattle.search.specs.declared.answer.Routed.the-variants.{Best, Refused}
 use Rattle.search.proofs.Theorems.{refused-13-exactly, refused-14-exactly}
@@ -46,6 +47,11 @@ module _ {p : Service} {ask : Ask} {before : List ℕ} where
   refused-late-exactly (too-late a l) = (λ e. l, λ h. inr refl)
   refused-late-exactly (best b f) =
       (λ e. ⊎-elim best-refused best-refused e, λ h. absurd (omega (arith, h _ _ (b .allowed), f .in-time)))
+
+  pub routes-at-deadline : {r : Routed} {after chain : List ℕ} → RoutesPlan p ask before r after → IsBest p ask chain (ask .deadline .0) → r ≡ Refused TooLate
+  routes-at-deadline (no-chain n) b = absurd (n _ _ (b .allowed))
+  routes-at-deadline (too-late a l) b = refl
+  routes-at-deadline (best c f) b = absurd (omega (arith, b .none-earlier _ _ (c .allowed), f .in-time))
 
 module _ {contacts : List ℕ} {m : ℕ} {ranges : List ℕ} {n : ℕ} {ask : Ask} {before : List ℕ} (room : mostChain ≤ length before)
     (plan : IsPlan contacts m ranges n) (good : GoodAsk ask) (differ : ask .source .0 ≡ ask .destination .0 → ⊥) where

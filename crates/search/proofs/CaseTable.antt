@@ -27,7 +27,7 @@ use Rattle.walk.specs.Model.{goodAsk, limitBefore, roomOf, figuresOf}
 use Rattle.timing.specs.Model.{stepOver}
 use Rattle.walk.proofs.WalkCode.{goodAsk-tells}
 use Rattle.network.specs.Model.{delivery, chosen}
-use Rattle.layers.specs.Bridge.{networkOf}
+use Rattle.search_layers.specs.Bridge.{networkOf}
 use Rattle.search.specs.Model.{routeModel, routeAfter}
 use Rattle.search.specs.Route.{Routes, RoutesPlan, same-node, routed}
 use Rattle.search.specs.declared.answer.Routed.{Routed}

@@ -22,9 +22,9 @@ use Rattle.timing.proofs.ChainLaws.{carry-complete, allowed-delivery}
 use Rattle.network.specs.Best.{Reaches}
 use Rattle.network.specs.Network.{at, Runs}
 use Rattle.network.specs.Network as Net
-use Rattle.layers.specs.Bridge.{whenOf, networkOf}
-use Rattle.layers.specs.Bridge.{goal}
-use Rattle.layers.proofs.NetworkLaws.{contact-in-plan, in-plan-contact, barredHop, step-is}
+use Rattle.search_layers.specs.Bridge.{whenOf, networkOf}
+use Rattle.search_layers.specs.Bridge.{goal}
+use Rattle.search_layers.proofs.NetworkLaws.{contact-in-plan, in-plan-contact, barredHop, step-is}
 
 -- a step that is made: the contact is not barred, and the hop over it is made
 free-hop : (bar : Bool) (a : Arrival) (s : ℕ) → whenOf (pickArrival bar Never a) ≡ at s → (bar ≡ false) × (a ≡ Ready (record { 0 = s }))

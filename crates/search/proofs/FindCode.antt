@@ -20,10 +20,10 @@ use Rattle.walk.specs.Walk.{GoodAsk}
 use Rattle.network.specs.Model.{earliest, delivery, fewest}
 use Rattle.network.specs.Network.{When, at, never, Network}
 use Rattle.network.proofs.Theorems.{fewest-is, fewest-length}
-use Rattle.layers.specs.Bridge.{networkOf, goal}
-use Rattle.layers.specs.Words.{neverWord, whenWord, TimeWord, rowOf, Filled, FirstRow}
-use Rattle.layers.proofs.RowLaws.{when-never, when-below, when-time, time-most, time-row, getD-layer}
-use Rattle.choice.specs.Model.{chainOf}
+use Rattle.search_layers.specs.Bridge.{networkOf, goal}
+use Rattle.search_layers.specs.Words.{neverWord, whenWord, TimeWord, rowOf, Filled, FirstRow}
+use Rattle.search_layers.proofs.RowLaws.{when-never, when-below, when-time, time-most, time-row, getD-layer}
+use Rattle.search_choice.specs.Model.{chainOf}
 use Rattle.search.specs.declared.answer.Found.the-variants.{Chain, Nothing}
 use Rattle.search.specs.Model.{foundOf, findModel, chainAfter, routeAfter}
 

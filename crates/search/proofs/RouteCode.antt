@@ -25,9 +25,9 @@ use Rattle.walk.proofs.LastCallCode.{carries-named}
 use Rattle.network.specs.Model.{delivery, chosen}
 use Rattle.network.specs.Network.{When, at, never}
 use Rattle.network.proofs.Theorems.{chosen-best}
-use Rattle.layers.specs.Bridge.{networkOf, goal}
-use Rattle.layers.proofs.NetworkLaws.{network-laws, goal-node, goal-apart}
-use Rattle.choice.specs.Model.{chainOf}
+use Rattle.search_layers.specs.Bridge.{networkOf, goal}
+use Rattle.search_layers.proofs.NetworkLaws.{network-laws, goal-node, goal-apart}
+use Rattle.search_choice.specs.Model.{chainOf}
 use Rattle.search.specs.declared.answer.Found.{Found}
 use Rattle.search.specs.declared.answer.Found.the-variants.{Chain, Nothing}
 use Rattle.search.specs.declared.answer.Routed.{Routed}

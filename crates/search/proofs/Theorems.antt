@@ -39,9 +39,9 @@ use Rattle.network.specs.Best.{LowerBack}
 use Rattle.network.specs.Model.{delivery}
 use Rattle.network.specs.Network.{When, at, never}
 use Rattle.network.proofs.Theorems.{chosen-best, never-unreached}
-use Rattle.layers.specs.Bridge.{networkOf}
-use Rattle.layers.specs.Bridge.{goal}
-use Rattle.choice.specs.Model.{chainOf}
+use Rattle.search_layers.specs.Bridge.{networkOf}
+use Rattle.search_layers.specs.Bridge.{goal}
+use Rattle.search_choice.specs.Model.{chainOf}
 use Rattle.search.specs.Model.{pickFound, foundOf, findModel, answerOf, chainAfter, routeModel, routeAfter}
 use Rattle.search.specs.Route.{IsBest, RoutesPlan, no-chain, too-late, best, Routes, short-chain, no-plan, bad-ask, same-node, routed}
 use Rattle.search.specs.declared.answer.Found.{Found}
@@ -50,7 +50,7 @@ use Rattle.search.specs.declared.answer.Routed.{Routed}
 use Rattle.search.specs.declared.answer.Routed.the-variants.{Best, Refused}
 use Rattle.search.proofs.BestLaws.{is-best-best, is-best-unique, is-best-short}
 use Rattle.search.proofs.Chains.{allowed-reaches}
-use Rattle.layers.proofs.NetworkLaws.{network-laws, goal-node, goal-apart}
+use Rattle.search_layers.proofs.NetworkLaws.{network-laws, goal-node, goal-apart}
 
 -- what an answer with a chain says, of the chain that stands in the first n places afterwards
 record Returned (p : Service) (ask : Ask) (f : Figures) (n : ℕ) (chain : List ℕ) : Type 0 where

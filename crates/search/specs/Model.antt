@@ -13,8 +13,8 @@ use Rattle.service.specs.Service.{Service}
 use Rattle.walk.specs.Model.{figuresOf}
 use Rattle.network.specs.Network.{When, at, never}
 use Rattle.network.specs.Model.{delivery}
-use Rattle.layers.specs.Bridge.{networkOf, goal}
-use Rattle.choice.specs.Model.{chainOf}
+use Rattle.search_layers.specs.Bridge.{networkOf, goal}
+use Rattle.search_choice.specs.Model.{chainOf}
 use Rattle.search.specs.declared.answer.Found.{Found}
 use Rattle.search.specs.declared.answer.Found.the-variants.{Chain, Nothing}
 use Rattle.search.specs.declared.answer.Routed.{Routed}

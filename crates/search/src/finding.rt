@@ -1,12 +1,12 @@
 // The best chain found, for a plan as it serves the ask and a good ask between two nodes: its contact numbers
-// go into the lent chain. The layers are filled in the crate `layers`, and the chain is worked back in
-// `choice`. Only these functions hold the layers: the figures are worked out when they are gone.
+// go into the lent chain. The layers are filled in the crate `search_layers`, and the chain is worked back in
+// `search_choice`. Only these functions hold the layers: the figures are worked out when they are gone.
 use crate::answer::Found;
-use choice::choose;
-use choice::first_row;
-use layers::NEVER;
-use layers::fill;
-use layers::get;
+use search_choice::choose;
+use search_choice::first_row;
+use search_layers::NEVER;
+use search_layers::fill;
+use search_layers::get;
 use units::Ask;
 use units::Refusal;
 ghost use mathlib.Core.Path.{_≡_};
@@ -16,7 +16,7 @@ ghost use Rattle.units.specs.Limits.{mostChain};
 ghost use Rattle.service.specs.Tables.{served, IsService};
 ghost use Rattle.walk.specs.Walk.{GoodAsk};
 ghost use Rattle.search.specs.Model.{findModel, routeAfter};
-ghost use Rattle.layers.specs.Words.{blankWords};
+ghost use Rattle.search_layers.specs.Words.{blankWords};
 
 // What is found, worked out in lent words.
 fn find_in(

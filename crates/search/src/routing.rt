@@ -2,6 +2,7 @@
 use crate::answer::Found;
 use crate::answer::Routed;
 use crate::finding::find_chain;
+use plan_valid::is_plan;
 use service::BLANK_LEFT;
 use service::BLANK_LIGHT;
 use service::serve;
@@ -9,7 +10,6 @@ use units::Ask;
 use units::MOST_CHAIN;
 use units::MOST_CONTACTS;
 use units::Refusal;
-use validity::is_plan;
 use walk::figures_of;
 use walk::is_good_ask;
 ghost use mathlib.Core.Path.{_≡_};

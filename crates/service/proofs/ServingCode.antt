@@ -28,9 +28,9 @@ use Rattle.plan.specs.Tables.{contactAt, rangeAt, rowsFrom, planOf, IsPlan}
 use Rattle.plan.proofs.EachRow.{each-row}
 use Rattle.plan.proofs.Lent.{ranges-counted}
 use Rattle.plan.proofs.RowList.{length-rows, getD-rows}
-use Rattle.lists.specs.Lists.{Linked, slotAt}
-use Rattle.lists.specs.Model.{slots, mostRows, Linkable}
-use Rattle.ranging.specs.Model.{RangesListed, Kept}
+use Rattle.plan_lists.specs.Lists.{Linked, slotAt}
+use Rattle.plan_lists.specs.Model.{slots, mostRows, Linkable}
+use Rattle.plan_light.specs.Model.{RangesListed, Kept}
 use Rattle.service.specs.Model.{NoneKept}
 use Rattle.service.specs.Service.{blank, volume, leftsFrom, serviceOf, unused, LightGood}
 use Rattle.service.specs.Tables.{unranged, lightWord, lightAt, leftAt, served}

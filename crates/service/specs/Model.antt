@@ -4,7 +4,7 @@
 use mathlib.Core.List.{List}
 use Prim.Native.Nat.{ℕ, _≤_, _<_}
 use lib.ListN.{length, getD}
-use Rattle.lists.specs.Model.{mostRows}
+use Rattle.plan_lists.specs.Model.{mostRows}
 
 pub record NoneKept (kept : List ℕ) : Type 0 where
   pub a-row-each : mostRows ≤ length kept

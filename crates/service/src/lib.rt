@@ -1,4 +1,4 @@
-// The plan as it serves an ask: beside each contact its light time, which `ranging` finds, and the bytes
+// The plan as it serves an ask: beside each contact its light time, which `plan_light` finds, and the bytes
 // that are left on it.
 mod serving;
 mod tables;

@@ -2,8 +2,8 @@
 use crate::one::counts;
 use crate::one::end;
 use crate::one::length;
-use parse::read;
-use print::write;
+use text_read::read;
+use text_write::write;
 
 // `read` into tables of which one has a word too few, either way round.
 fn few_rows(few: &mut [u64], full: &mut [u64]) {

@@ -1,10 +1,10 @@
 // One text: what `read` answers, whether the lent words after the rows stayed, and whether `write` gives
 // the bytes back.
 use libc::STDOUT_FILENO;
-use parse::read;
-use print::write;
 use text::PlanRead;
 use text::Written;
+use text_read::read;
+use text_write::write;
 use units::Refusal;
 
 // What the tables hold before the call.

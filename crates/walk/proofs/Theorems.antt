@@ -3,6 +3,8 @@
 --     walks-plan-determined      for a plan, an ask and a chain there is one answer at the most
 --     walks-determined           the same for lent tables
 --     last-call-unique, room-unique, figures-unique
+--     deadline-late              a chain that delivers at the deadline is not in time
+--     walks-at-deadline          and is refused with 14
 --     last-call-early            the last call is below the deadline
 --     room-enough                the room is no less than the size asked for
 --     figures-bounded            both, of the figures that a walk answers
@@ -30,7 +32,7 @@ use Rattle.timing.specs.Model.{deliveryOf}
 use Rattle.walk.specs.Model.{figuresOf, pickWalked, walkedOf, walkModel}
 use Rattle.walk.specs.Walk.{GoodAsk, WalksPlan, turned-down, too-late, carried, Walks, no-plan, bad-ask, same-node, walked}
 use Rattle.timing.proofs.ChainLaws.{carries-after, allowed-delivery, allowed-determined}
-use Rattle.causes.proofs.CauseLaws.{cause-tells, turned-determined, allowed-no-cause}
+use Rattle.walk_cause.proofs.CauseLaws.{cause-tells, turned-determined, allowed-no-cause}
 use Rattle.walk.proofs.LastCallLaws.{last-call-is}
 use Rattle.walk.proofs.RoomLaws.{room-is}
 
@@ -59,6 +61,14 @@ module _ {p : Service} {ask : Ask} {chain : List ℕ} where
   walks-plan-determined (carried f) (turned-down d) = absurd (allowed-no-cause (f .allowed) d)
   walks-plan-determined (carried f) (too-late a l) = absurd (omega (arith, allowed-determined p ask a (f .allowed), f .in-time))
   walks-plan-determined (carried f) (carried g) = ap Carried (figures-unique f g)
+
+  pub deadline-late : Allowed p ask chain (ask .deadline .0) → InTime p ask chain → ⊥
+  deadline-late a i = omega (arith, allowed-determined p ask a (i .allowed), i .early)
+
+  pub walks-at-deadline : {w : Walked} → WalksPlan p ask chain w → Allowed p ask chain (ask .deadline .0) → w ≡ Refused TooLate
+  walks-at-deadline (turned-down d) a = absurd (allowed-no-cause a d)
+  walks-at-deadline (too-late b l) a = refl
+  walks-at-deadline (carried f) a = absurd (omega (arith, allowed-determined p ask a (f .allowed), f .in-time))
 
   pub last-call-early : {t : ℕ} → IsLastCall p ask chain t → t < ask .deadline .0
   last-call-early l = lt-of-le-of-lt (carries-after (l .still .allowed .carried)) (l .still .early)

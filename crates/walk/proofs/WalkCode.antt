@@ -29,7 +29,7 @@ use Rattle.service.specs.Tables.{served}
 use Rattle.timing.specs.Hop.{startOn}
 use Rattle.walk.specs.Model.{goodAsk, limitBefore, roomOf, figuresOf, walkModel}
 use Rattle.timing.specs.Model.{deliveryOf}
-use Rattle.causes.specs.Model.{causeOf}
+use Rattle.walk_cause.specs.Model.{causeOf}
 use Rattle.walk.specs.Walk.{GoodAsk}
 use Rattle.timing.proofs.ChainCode.{contact-lent}
 

@@ -19,7 +19,7 @@ use Rattle.timing.specs.declared.arrival.Arrival.the-variants.{Ready, Never}
 use Rattle.timing.specs.Chain.{askOf}
 use Rattle.timing.specs.Hop.{startOn}
 use Rattle.timing.specs.Model.{backOver, deliveryOf}
-use Rattle.causes.specs.Model.{causeOf}
+use Rattle.walk_cause.specs.Model.{causeOf}
 use Rattle.walk.specs.declared.figures.Figures.{Figures}
 use Rattle.walk.specs.declared.figures.Walked.{Walked}
 use Rattle.walk.specs.declared.figures.Walked.the-variants.{Carried, Refused}

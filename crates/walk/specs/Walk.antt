@@ -13,7 +13,7 @@ use Rattle.walk.specs.declared.figures.Figures.{Figures}
 use Rattle.walk.specs.declared.figures.Walked.{Walked}
 use Rattle.walk.specs.declared.figures.Walked.the-variants.{Carried, Refused}
 use Rattle.timing.specs.Chain.{Allowed}
-use Rattle.causes.specs.Cause.{TurnedDown}
+use Rattle.walk_cause.specs.Cause.{TurnedDown}
 use Rattle.walk.specs.Figures.{HasFigures}
 
 -- every value of the ask in its range; any exclusion number is

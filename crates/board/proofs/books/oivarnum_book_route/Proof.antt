@@ -3,7 +3,7 @@
 use native.Mathlib.Omega.{arith}
 use borrow.Author.Needs.{needs}
 use Rattle.board.specs.Booked.{no-room, called}
-use Rattle.face.specs.Layout.{bookedWords}
+use Rattle.board_face.specs.Layout.{bookedWords}
 use Rattle.board.proofs.books.oivarnum_book_route.Statement.{statement}
 use Rattle.board.proofs.books.oivarnum_book_route.Tie as tie
 

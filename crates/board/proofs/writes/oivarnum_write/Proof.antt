@@ -3,7 +3,7 @@
 use native.Mathlib.Omega.{arith}
 use borrow.Author.Needs.{needs}
 use Rattle.board.specs.Faces.{no-room, called}
-use Rattle.face.specs.Layout.{answerWords}
+use Rattle.board_face.specs.Layout.{answerWords}
 use Rattle.board.proofs.writes.oivarnum_write.Statement.{statement}
 use Rattle.board.proofs.writes.oivarnum_write.Tie as tie
 

@@ -1,7 +1,7 @@
 -- `desk::ask::is_ask` meets its contract.
 -- Assumes nothing.
 use borrow.Author.Needs.{needs}
-use Rattle.lines.proofs.LineCode.{word-end, word-length}
+use Rattle.text_lines.proofs.LineCode.{word-end, word-length}
 use Rattle.desk.specs.Asks.{askWord}
 use Rattle.desk.proofs.AskCode.{ask-by, ask-row}
 use Rattle.desk.proofs.ask.is_ask.Statement.{statement}

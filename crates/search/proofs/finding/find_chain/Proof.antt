@@ -1,7 +1,7 @@
 -- `search::finding::find_chain` meets its contract.
 -- Assumes nothing.
 use borrow.Author.Needs.{needs}
-use Rattle.layers.proofs.FillCode.{blank-is}
+use Rattle.search_layers.proofs.FillCode.{blank-is}
 use Rattle.search.proofs.finding.find_chain.Statement.{statement}
 use Rattle.search.proofs.finding.find_chain.Tie as tie
 

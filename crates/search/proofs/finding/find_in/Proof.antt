@@ -3,7 +3,7 @@
 use mathlib.Core.Path.{sym}
 use native.Mathlib.Nat.{le-refl, le-trans}
 use borrow.Author.Needs.{needs}
-use Rattle.layers.specs.Words.{neverWord}
+use Rattle.search_layers.specs.Words.{neverWord}
 use Rattle.search.proofs.FindCode.{row-inside, delivered-at, delivered-most, count-is, count-room, find-none, find-late, find-best}
 use Rattle.search.proofs.finding.find_in.Statement.{statement}
 use Rattle.search.proofs.finding.find_in.Tie as tie

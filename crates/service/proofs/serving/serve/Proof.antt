@@ -2,7 +2,7 @@
 -- Assumes nothing.
 use native.Mathlib.Omega.{arith}
 use borrow.Author.Needs.{needs}
-use Rattle.lists.specs.Model.{slots, mostRows}
+use Rattle.plan_lists.specs.Model.{slots, mostRows}
 use Rattle.service.proofs.ServingCode.{none-kept}
 use Rattle.service.proofs.serving.serve.Statement.{statement}
 use Rattle.service.proofs.serving.serve.Tie as tie

@@ -8,7 +8,7 @@ use lib.ListN.{length, length-set}
 use Rattle.units.specs.Limits.{mostContacts}
 use Rattle.plan.specs.Tables.{rangeAt, rowsFrom}
 use Rattle.plan.proofs.Lent.{contacts-counted}
-use Rattle.ranging.specs.Model.{Kept}
+use Rattle.plan_light.specs.Model.{Kept}
 use Rattle.service.proofs.ServingCode.{row-good, light-in-range, Beside, beside-more, beside-all}
 use Rattle.service.proofs.serving.serve_along.Statement.{statement}
 use Rattle.service.proofs.serving.serve_along.Tie as tie
