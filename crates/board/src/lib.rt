@@ -1,5 +1,8 @@
 // The public calls as C functions, for flight software in C or Rust: numbers and slices only. A slice is a
 // pointer and a length. include/oivarnum.h declares the functions for C.
+
+#![tactic(auto)]
+
 mod books;
 mod reads;
 mod releases;

@@ -1,5 +1,8 @@
 // What the exported functions share: the words of an answer laid out in the lent answer, and an ask from
 // plain numbers.
+
+#![tactic(auto)]
+
 mod answer;
 mod asking;
 

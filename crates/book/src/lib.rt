@@ -1,6 +1,9 @@
 // A book of volume on the contacts of a plan, in lent tables: 256 places, four words each in one flat
 // slice, and beside them 63 contact numbers each in another. No function but the accessors of
 // `places` knows where a word stands.
+
+#![tactic(auto)]
+
 mod places;
 mod spending;
 mod valid;

@@ -1,4 +1,7 @@
 // The book kept: the lowest free place, a booking entered in a place, a place freed.
+
+#![tactic(auto)]
+
 mod entering;
 mod freeing;
 

@@ -7,7 +7,7 @@ use units::{Ask, MOST_CLASS, Refusal};
 use walk::is_good_ask;
 
 // A refusal, or nothing that stands against the call.
-#[derive(Drop)]
+#[derive(Clone, Copy)]
 pub enum Check {
     Stop(Refusal),
     Go,

@@ -1,5 +1,8 @@
 // The calls over a plan with its book: a chain timed, and the best chain found, where contacts carry no more than is
 // left on them. What they promise stands in specs/.
+
+#![tactic(auto)]
+
 mod checking;
 mod routes;
 mod serving;

@@ -1,5 +1,8 @@
 // The calls that change a book: a route booked in the lowest free place, and a place released. What they
 // promise stands in specs/.
+
+#![tactic(auto)]
+
 mod answers;
 mod releasing;
 mod reserving;

@@ -10,7 +10,7 @@ const LINE_FEED: u8 = 10;
 const MOST_LINES: usize = 1_000_000;
 
 // The next line's length without its line feed, and whether there was one.
-#[derive(Drop)]
+#[derive(Clone, Copy)]
 struct Next {
     length: usize,
     is_there: bool,

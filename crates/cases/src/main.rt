@@ -15,6 +15,9 @@
 //
 // A call is lent the words that were put, and no more. What is no such line is answered by `bad line`. The same lines
 // are answered by second/src/bin/cases.rs.
+
+#![tactic(auto)]
+
 mod answering;
 mod chains;
 mod input;

@@ -9,7 +9,7 @@ use text_lines::numbers;
 pub const HALF: usize = 2565;
 
 // How many words of each table are put, and how many of its rows count.
-#[derive(Drop)]
+#[derive(Clone, Copy)]
 pub struct Sizes {
     pub contact_words: usize,
     pub contact_rows: usize,

@@ -37,7 +37,7 @@ fn with_byte(number: u64, byte: u8) -> u64 {
 }
 
 // A field: its number, and where it ends.
-#[derive(Drop)]
+#[derive(Clone, Copy)]
 pub struct Word {
     pub number: u64,
     pub end: usize,

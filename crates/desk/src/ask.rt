@@ -18,7 +18,7 @@ const MOST_FIELD: usize = 21;
 const MOST_EXCLUDED: u64 = 18_446_744_073_709_551_615;
 
 // The ask that the line says, or why it is refused.
-#[derive(Drop)]
+#[derive(Clone, Copy)]
 pub enum AskRead {
     Asked(Ask),
     Refused(Refusal),

@@ -1,5 +1,8 @@
 // The desk: an ask line read, an answer line written, a line and the lines of an input answered, as
 // functions on bytes. What they promise stands in specs/.
+
+#![tactic(auto)]
+
 mod answer;
 mod answering;
 mod ask;

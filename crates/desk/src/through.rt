@@ -17,7 +17,7 @@ const LINE_FEED: u8 = 10;
 pub const LONGEST: usize = 305;
 
 // How far the answering is: the place of the next line, its number, and how many bytes are used.
-#[derive(Drop)]
+#[derive(Clone, Copy)]
 pub struct Reached {
     pub at: usize,
     pub number: u64,

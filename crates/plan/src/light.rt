@@ -2,7 +2,7 @@
 use units::Millis;
 
 // A light time, which may be 0, or none: the ranges of the contact's pair do not cover all of it.
-#[derive(Drop)]
+#[derive(Clone, Copy)]
 pub enum Light {
     Of(Millis),
     Unranged,

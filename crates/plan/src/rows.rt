@@ -6,7 +6,7 @@ use units::{ContactNo, Millis, NodeNo};
 
 // A pass: from `start` until `end` the node `from` can send to the node `to` at `rate` bytes a
 // second.
-#[derive(Drop)]
+#[derive(Clone, Copy)]
 pub struct Contact {
     pub start: Millis,
     pub end: Millis,
@@ -16,7 +16,7 @@ pub struct Contact {
 }
 
 // A light time that holds between the nodes `a` and `b`, both ways, from `start` until `end`.
-#[derive(Drop)]
+#[derive(Clone, Copy)]
 pub struct Range {
     pub start: Millis,
     pub end: Millis,
@@ -26,7 +26,7 @@ pub struct Range {
 }
 
 // What contacts and ranges have in common, their first four words: a pair of nodes and a time.
-#[derive(Drop)]
+#[derive(Clone, Copy)]
 pub struct Span {
     pub start: Millis,
     pub end: Millis,

@@ -1,5 +1,8 @@
 // Whether lent tables hold a valid plan. How a plan is found valid, along the rows of each slot, is in
 // no promise.
+
+#![tactic(auto)]
+
 mod apart;
 mod good;
 mod valid;

@@ -1,4 +1,7 @@
 // The program `route`: answers the asks of standard input over the plan of the file plan.txt.
+
+#![tactic(auto)]
+
 mod asks;
 mod output;
 mod refusing;

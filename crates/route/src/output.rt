@@ -11,7 +11,7 @@ use libc::STDOUT_FILENO;
 
 // A refusal with this number and place; or, where that number is 0, the answers up to this byte of the
 // input, where the line with this number begins.
-#[derive(Drop)]
+#[derive(Clone, Copy)]
 pub struct Receipt {
     refused: u64,
     place: u64,

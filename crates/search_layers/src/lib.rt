@@ -1,5 +1,8 @@
 // The plan with an ask as a network, and its layers in words: when the file can be at each node at the
 // earliest, over at most so many contacts. All of it is internal and serves the search.
+
+#![tactic(auto)]
+
 mod filling;
 mod rows;
 mod trying;

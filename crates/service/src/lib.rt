@@ -1,5 +1,8 @@
 // The plan as it serves an ask: beside each contact its light time, which `plan_light` finds, and the bytes
 // that are left on it.
+
+#![tactic(auto)]
+
 mod serving;
 mod tables;
 

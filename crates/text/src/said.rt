@@ -2,7 +2,7 @@
 use plan::{Contact, Range};
 
 // A contact, a range, or nothing where the line has another shape.
-#[derive(Drop)]
+#[derive(Clone, Copy)]
 pub enum Said {
     AContact(Contact),
     ARange(Range),

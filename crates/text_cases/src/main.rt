@@ -1,5 +1,8 @@
 // Texts from standard input, each headed by its length in four bytes: for each a line with what `read`
 // and `write` answer.
+
+#![tactic(auto)]
+
 mod edges;
 mod input;
 mod one;

@@ -1,4 +1,7 @@
 // The lines of a text: where the next one ends, the numbers of one, and what a plan's line says.
+
+#![tactic(auto)]
+
 mod line;
 mod marks;
 mod number;

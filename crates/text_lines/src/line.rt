@@ -12,7 +12,7 @@ use text::Said;
 const TAB: u8 = 9;
 
 // A field: its number, as far as 64 bits hold it, and the place after it; or no number.
-#[derive(Drop)]
+#[derive(Clone, Copy)]
 pub enum Field {
     Number(u64, usize),
     Bad,

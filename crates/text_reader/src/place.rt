@@ -11,7 +11,7 @@ const LINE_FEED: u8 = 10;
 const HEADER: usize = 7;
 
 // A place in a text.
-#[derive(Drop)]
+#[derive(Clone, Copy)]
 pub struct Reader<'a> {
     pub text: &'a [u8],
     pub at: usize,

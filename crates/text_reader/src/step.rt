@@ -11,7 +11,7 @@ use text_rows::take_said;
 use units::Refusal;
 
 // How far the reading is: so many contacts and so many ranges stand before that line; or why a line is refused.
-#[derive(Drop)]
+#[derive(Clone, Copy)]
 pub enum SoFar {
     Taken(usize, usize, u64),
     Stopped(Refusal),

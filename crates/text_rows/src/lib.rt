@@ -1,4 +1,7 @@
 // Rows that a plan text says, taken one by one: held against the rows before them and stored.
+
+#![tactic(auto)]
+
 mod judge;
 mod table;
 

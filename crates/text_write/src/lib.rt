@@ -1,5 +1,8 @@
 // The text of a plan written into lent bytes. The public call is `write`; what it promises stands in
 // the specs/ of `text`. `desk` writes its lines with the functions that write a line's parts.
+
+#![tactic(auto)]
+
 mod length;
 mod put;
 mod writer;

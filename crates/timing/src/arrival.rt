@@ -2,7 +2,7 @@
 use units::Millis;
 
 // A time, or never.
-#[derive(Drop)]
+#[derive(Clone, Copy)]
 pub enum Arrival {
     Ready(Millis),
     Never,

@@ -1,4 +1,7 @@
 // The times of a file over contacts: one hop, and a chain of them.
+
+#![tactic(auto)]
+
 mod arrival;
 mod chain;
 mod hop;

@@ -1,21 +1,23 @@
 // What every layer speaks of: the three kinds of number that are never mixed, the ask, the refusal,
 // and each limit of the request, once. The definitions of specs/ have the same names and values.
 
+#![tactic(auto)]
+
 // The number of a contact: its line's place among the contact lines, counted from 1.
-#[derive(Drop)]
+#[derive(Clone, Copy)]
 pub struct ContactNo(pub u64);
 
 // The number of a node, from 1.
-#[derive(Drop)]
+#[derive(Clone, Copy)]
 pub struct NodeNo(pub u64);
 
 // A time, or a length of time, in whole milliseconds.
-#[derive(Drop)]
+#[derive(Clone, Copy)]
 pub struct Millis(pub u64);
 
 // What is asked: which passes carry a file of `size` bytes from `source`, where it is ready at
 // `time`, to `destination` before `deadline`? Bit n - 1 of `excluded` excludes the neighbour n.
-#[derive(Drop)]
+#[derive(Clone, Copy)]
 pub struct Ask {
     pub source: NodeNo,
     pub destination: NodeNo,
@@ -27,7 +29,7 @@ pub struct Ask {
 
 // Why a call refuses. A line's refusal holds the line and a chain's the position in it, both counted
 // from 1, and `ShortOutput` the length needed. `number` and `place` give the paper's two figures.
-#[derive(Drop)]
+#[derive(Clone, Copy)]
 pub enum Refusal {
     LongText,
     NoHeader,
@@ -86,6 +88,7 @@ ghost use Rattle.units.specs.Model.{is_node};
 ghost use Rattle.units.specs.Refusals.{number_of, place_of};
 
 // Whether it is the number of a node.
+#[tactic(auto, unfolding(crate::specs::Limits::most_nodes))]
 pub fn is_node(n: NodeNo) -> bool
     ensures { result ≡ is_node n }
 {

@@ -4,7 +4,7 @@ use units::{Millis, Refusal};
 // The figures of an allowed chain in time: when the file is delivered, when it starts on the first
 // contact, the latest time from which the same chain still carries it, and the largest file that it
 // carries.
-#[derive(Drop)]
+#[derive(Clone, Copy)]
 pub struct Figures {
     pub delivery: Millis,
     pub opens: Millis,
@@ -13,7 +13,7 @@ pub struct Figures {
 }
 
 // The answer of `walk`.
-#[derive(Drop)]
+#[derive(Clone, Copy)]
 pub enum Walked {
     Carried(Figures),
     Refused(Refusal),

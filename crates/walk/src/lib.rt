@@ -1,6 +1,9 @@
 // The figures of a chain: when the file is delivered, when it is first sent, from when on it is too
 // late, and how large it may be; or why the chain is turned down, which the crate `walk_cause` finds.
 // Public: `walk`. The rest serves `walk` and the search.
+
+#![tactic(auto)]
+
 mod figures;
 mod last_call;
 mod room;

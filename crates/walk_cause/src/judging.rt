@@ -12,7 +12,7 @@ use units::{Ask, ContactNo, Millis, NodeNo, Refusal};
 
 // A contact of a chain, judged as it is reached: when the file is ready behind it, or its lowest
 // fault.
-#[derive(Drop)]
+#[derive(Clone, Copy)]
 enum Judged {
     Good(Millis),
     Fault(Refusal),
