@@ -1,0 +1,18 @@
+-- `board_face::answer::put_read` meets its contract.
+-- Assumes nothing.
+use mathlib.Core.Path.{sym, ap}
+use native.Mathlib.Omega.{arith}
+use borrow.Author.Rules.{rules}
+use Rattle.board_face.specs.Layout.{answer_words, read_words}
+use Rattle.board_face.proofs.AnswerCode.{answered_as}
+use Rattle.board_face.proofs.answer.put_read.Goals as goal
+
+pub put_words-requires : goal.put_words-requires
+unfolding answer_words
+put_words-requires c = (omega arith, omega arith)
+
+pub returns-in-Rows : goal.returns-in-Rows
+returns-in-Rows c = answered_as (ap read_words (sym c.in-Rows.is)) c.put_words.ensures
+
+pub returns-in-Refused : goal.returns-in-Refused
+returns-in-Refused c = answered_as (ap read_words (sym c.in-Refused.is)) c.put_refusal.ensures

@@ -1,0 +1,7 @@
+-- `book::spending::spend_one` meets its contract.
+-- Assumes nothing.
+use borrow.Author.Rules.{rules}
+use Rattle.book.proofs.spending.spend_one.Goals as goal
+
+pub returns : goal.returns
+returns c = rw c.less.ensures

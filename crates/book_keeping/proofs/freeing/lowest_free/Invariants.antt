@@ -1,0 +1,17 @@
+-- `book_keeping::freeing::lowest_free` meets its contract. The loop's invariant: no place so far is free.
+-- Assumes nothing.
+use mathlib.Core.Path.{◌≡◌, sym, ◌∙◌}
+use Prim.Native.Nat.{ℕ, ◌-◌, ◌≤◌, ◌<◌}
+use native.Mathlib.Omega.{arith}
+use borrow.Author.Count.{below_more}
+use Rattle.units.specs.Limits.{most_places}
+use Rattle.book.specs.Tables.{free_mark, mark_at}
+use Rattle.book_keeping.specs.Keeping.{AllOpen}
+use Rattle.book_keeping.specs.Model.{lowest, none_free}
+use Rattle.book_keeping.proofs.freeing.lowest_free.Given as goal
+
+abbrev pub invariant-loop-k : goal.invariant-loop-k
+invariant-loop-k l = (l.k ≤ most_places) × ((j : ℕ) → j < l.k → mark_at l.book j ≡ free_mark → ⊥)
+
+abbrev pub decreases-loop-k : goal.decreases-loop-k
+decreases-loop-k l = most_places - l.k

@@ -1,0 +1,15 @@
+-- `desk::ask::read_ask` meets its contract.
+-- Assumes nothing.
+use borrow.Author.Tests.{not-true, not-false}
+use borrow.Author.Rules.{rules}
+use Rattle.desk.proofs.AskCode.{read_bad, read_judged}
+use Rattle.desk.proofs.ask.read_ask.Goals as goal
+
+pub returns-then-not-is_ask : goal.returns-then-not-is_ask
+returns-then-not-is_ask c = read_bad _ _ _ _ c.is_ask.ensures.0 (not-true _ c.if-not-is_ask.true)
+
+pub returns : goal.returns
+returns c =
+    let shaped = c.is_ask.ensures in
+    let good = not-false _ c.if-not-is_ask.false in
+    read_judged _ _ _ _ shaped.0 _ _ good (shaped.1 good) c.judged.ensures

@@ -1,0 +1,22 @@
+-- `desk::through::answer_into` meets its contract: 305 bytes are left, so that the line is not refused.
+-- Assumes nothing.
+use native.Mathlib.Omega.{arith}
+use borrow.Author.Rules.{rules}
+use Rattle.desk.proofs.ThroughCode.{answered_into, never_refused}
+use Rattle.desk.proofs.through.answer_into.Goals as goal
+
+pub overflow_add-result : goal.overflow_add-result
+overflow_add-result c =
+    let at-answer = c.answer_line in
+    let answered = answered_into c.args.out.now c.args.used _ _ (omega arith) at-answer.ensures c.in-Length.is in
+    omega (arith, answered.fits)
+
+pub returns-in-Length : goal.returns-in-Length
+returns-in-Length c =
+    let at-answer = c.answer_line in
+    answered_into c.args.out.now c.args.used _ _ (omega arith) at-answer.ensures c.in-Length.is
+
+pub returns-in-Refused : goal.returns-in-Refused
+returns-in-Refused c =
+    let at-answer = c.answer_line in
+    absurd (never_refused c.args.out.now c.args.used _ _ (omega arith) c.requires at-answer.ensures c.in-Refused.is)

@@ -1,0 +1,16 @@
+-- `route::asks::answer_each` meets its contract. The loop's invariant: the parts printed so far are the answers from the first line on.
+-- Assumes nothing.
+use mathlib.Core.Path.{◌≡◌, refl}
+use Prim.Native.Nat.{◌-◌, ◌<◌}
+use native.Mathlib.Omega.{arith}
+use lib.ListN.{length}
+use borrow.Author.Rules.{rules}
+use Rattle.route.specs.Receipts.{to_its_end}
+use Rattle.route.proofs.AsksCode.{SoFar, none_yet, joined, line_most}
+use Rattle.route.proofs.asks.answer_each.Given as goal
+
+abbrev pub invariant-loop-out : goal.invariant-loop-out
+invariant-loop-out l = SoFar l.contacts l.m l.ranges l.n l.input l.printed × (length l.out ≡ length l.initial.out)
+
+abbrev pub decreases-loop-out : goal.decreases-loop-out
+decreases-loop-out l = length l.input - l.printed.at

@@ -1,0 +1,24 @@
+-- `route::asks::answer_some` meets its contract: the bytes printed are the answers of the lines gone through.
+-- Assumes nothing.
+use mathlib.Core.Path.{sym}
+use lib.Seq.{length-take-le}
+use borrow.Author.Rules.{rules}
+use Rattle.route.proofs.AsksCode.{used_within, part_from, further_from}
+use Rattle.route.proofs.asks.answer_some.Goals as goal
+
+pub slice_bounds-print_answers-end : goal.slice_bounds-print_answers-end
+slice_bounds-print_answers-end c =
+    used_within c.args.printed c.answer_lines-reached.ensures c.printed_to-at.ensures c.line_there-line.ensures c.requires.0 c.requires.2
+
+pub slice_bounds-print_answers-end-2 : goal.slice_bounds-print_answers-end-2
+slice_bounds-print_answers-end-2 c = sym (length-take-le _ _ (slice-reshare-prefix-print-answers c))
+
+pub print_answers-requires : goal.print_answers-requires
+print_answers-requires c =
+    part_from c.args.printed c.answer_lines-reached.ensures c.printed_to-at.ensures c.line_there-line.ensures c.requires.0 c.requires.2
+
+pub returns : goal.returns
+returns c =
+    let printed = c.print_answers.ensures in
+    further_from c.args.printed c.answer_lines-reached.ensures c.printed_to-at.ensures
+    c.line_there-line.ensures c.requires.0 c.requires.2 c.print_answers.result c.requires.1 c.requires.3 printed.0 printed.1 printed.2

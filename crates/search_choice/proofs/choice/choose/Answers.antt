@@ -1,0 +1,89 @@
+-- `search_choice::choice::choose` meets its contract. The loop's invariant: k contacts are still to be chosen before those that stand in the chain.
+-- Assumes nothing.
+use mathlib.Core.Path.{◌≡◌, refl}
+use Prim.Native.Nat.{ℕ, ◌+◌, ◌-◌}
+use native.Mathlib.Nat.{le_trans, mul-le-mul_right}
+use native.Mathlib.Omega.{arith}
+use Rattle.units.specs.Limits.{last_time, most_light, most_nodes, IsNode}
+use Rattle.service.specs.Tables.{served}
+use Rattle.search_layers.specs.Bridge.{network_of}
+use Rattle.search_layers.specs.Bridge.{goal}
+use Rattle.search_choice.specs.Model.{chain_of}
+use Rattle.search_choice.proofs.ChooseCode.{Working, working_begins, working_ends, lead_named, found_leads, found_goes}
+use Rattle.search_layers.proofs.NetworkLaws.{network_laws}
+use Rattle.search_layers.proofs.ReadCode.{contact_read}
+use Rattle.timing.proofs.ChainCode.{named_at_most}
+use Rattle.search_choice.proofs.choice.choose.Goals as goal
+
+-- the limit that it begins with is one more than the delivery
+one_less : (d : ℕ) → d + 1 - 1 ≡ d
+one_less d = omega arith
+
+pub overflow_add-limit : goal.overflow_add-limit
+unfolding last_time most_light
+overflow_add-limit c = omega (arith, c.requires.1.4)
+
+pub loop-k-init : goal.loop-k-init
+loop-k-init c =
+    let pre = c.requires in
+    (rw (one_less c.args.delivered.0) (working_begins _ (network_laws _ pre.0.0.sound _ pre.0.1) _ _ _ _ pre.1.1 pre.1.2), pre.0.1.destination_node)
+
+pub lowest_leading-no-requires : goal.lowest_leading-no-requires
+lowest_leading-no-requires c =
+    let pre = c.requires in
+    let inv = c.loop-k.invariant in (
+      pre.0.0,
+      pre.0.1,
+      pre.0.2,
+      le_trans (mul-le-mul_right most_nodes (omega (arith, inv.0.most, c.loop-k-test.true))) pre.0.3,
+      inv.1,
+    )
+
+pub offset_bounds-chain-k : goal.offset_bounds-chain-k
+offset_bounds-chain-k c =
+    omega (arith, c.loop-k.invariant.0.most, c.requires.1.3, c.well_formed)
+
+pub bounds-chain-k : goal.bounds-chain-k
+bounds-chain-k c =
+    let working = c.loop-k.invariant.0 in
+    omega (arith, working.most, working.long, c.loop-k-test.true, c.requires.1.3)
+
+pub back_over-limit-requires : goal.back_over-limit-requires
+back_over-limit-requires c =
+    let pre = c.requires in
+    let laws = network_laws _ pre.0.0.sound _ pre.0.1 in
+    let leads = found_leads _ _ laws _ _ _ _ _ _ _ _ _ _ c.loop-k-test.true c.loop-k.invariant.0 pre.1.0 c.lowest_leading-no.ensures in
+    (pre.0.0, lead_named _ _ _ _ _ _ leads, pre.0.1.size_most)
+
+pub contact_numbered-requires : goal.contact_numbered-requires
+contact_numbered-requires c =
+    let pre = c.requires in
+    let laws = network_laws _ pre.0.0.sound _ pre.0.1 in
+    let leads = found_leads _ _ laws _ _ _ _ _ _ _ _ _ _ c.loop-k-test.true c.loop-k.invariant.0 pre.1.0 c.lowest_leading-no.ensures in
+    let named = lead_named _ _ _ _ _ _ leads in
+    omega (arith, named.least, named_at_most _ _ _ _ _ named, pre.0.0.contacts_lent)
+
+pub loop-k-smaller : goal.loop-k-smaller
+loop-k-smaller c = omega (arith, c.loop-k-test.true)
+
+pub loop-k-preserved : goal.loop-k-preserved
+loop-k-preserved c =
+    let pre = c.requires in
+    let laws = network_laws _ pre.0.0.sound _ pre.0.1 in
+    let working = c.loop-k.invariant.0 in
+    let found = c.lowest_leading-no.ensures in
+    let leads = found_leads _ _ laws _ _ _ _ _ _ _ _ _ _ c.loop-k-test.true working pre.1.0 found in
+    let read = contact_read _ _ _ _ _ pre.0.0 (lead_named _ _ _ _ _ _ leads) _ c.contact_numbered.ensures in (
+      found_goes _ _ laws _ _ _ _ _ _ _ _ _ _ c.loop-k-test.true working pre.1.0 found _ _ _ pre.1.3 refl read c.back_over-limit.ensures,
+      read.good.from_node,
+    )
+
+pub shape_of-chain : goal.shape_of-chain
+shape_of-chain c = c.loop-k.invariant.0.long
+
+pub returns : goal.returns
+unfolding chain_of
+returns c =
+    let pre = c.requires in
+    rw (one_less c.args.delivered.0) at
+    (working_ends _ (network_laws _ pre.0.0.sound _ pre.0.1) _ _ _ _ _ _ _ _ c.loop-k-test.false c.loop-k.invariant.0)

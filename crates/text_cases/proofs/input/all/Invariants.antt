@@ -1,0 +1,14 @@
+-- `text_cases::input::all` is safe and ends.
+-- Assumes nothing.
+use mathlib.Core.Path.{◌≡◌, refl, ◌∙◌}
+use Prim.Native.Nat.{◌-◌}
+use lib.ListN.{length}
+use native.Mathlib.Omega.{arith}
+use borrow.Author.Rules.{rules}
+use Rattle.text_cases.proofs.input.all.Given as goal
+
+abbrev pub invariant-loop-read : goal.invariant-loop-read
+invariant-loop-read l = length l.text ≡ length l.initial.text
+
+abbrev pub decreases-loop-read : goal.decreases-loop-read
+decreases-loop-read l = 4096 - l.read

@@ -1,0 +1,20 @@
+-- `text_lines::line::field_at` meets its contract.
+-- Assumes nothing.
+use borrow.Author.Rules.{rules}
+use Rattle.text_lines.proofs.LineCode.{field_end, field_none, field_number, field_bad}
+use Rattle.text_lines.proofs.line.field_at.Goals as goal
+
+pub returns-then-line-at : goal.returns-then-line-at
+returns-then-line-at c = field_none _ _ c.if-line-at.true
+
+pub slice_bounds-digits-end : goal.slice_bounds-digits-end
+slice_bounds-digits-end c = field_end _ _ c.if-line-at.false _ c.find-end.ensures
+
+pub returns-then-is_number : goal.returns-then-is_number
+returns-then-is_number c =
+    field_number _ _ c.if-line-at.false _ _ _ c.find-end.ensures c.is_number.ensures c.if-is_number.true
+    c.value_of_lem.ensures
+
+pub returns-else-is_number : goal.returns-else-is_number
+returns-else-is_number c =
+    field_bad _ _ c.if-line-at.false _ _ c.find-end.ensures c.is_number.ensures c.if-is_number.false

@@ -1,0 +1,32 @@
+-- `text_write::length::text_length` meets its contract.
+-- Assumes nothing.
+use native.Mathlib.Omega.{arith}
+use borrow.Author.Rules.{rules}
+use Rattle.units.specs.Limits.{most_contacts, most_ranges}
+use Rattle.text.specs.Rows.{contact_word, range_word}
+use Rattle.text_write.proofs.LengthCode.{text_counted}
+use Rattle.text_write.proofs.length.text_length.Goals as goal
+
+pub rows_length-requires : goal.rows_length-requires
+unfolding most_contacts most_ranges
+rows_length-requires c =
+    (omega arith, c.requires.0, c.requires.2)
+
+pub overflow_add-result : goal.overflow_add-result
+unfolding most_contacts most_ranges
+overflow_add-result c =
+    omega (arith, c.rows_length.ensures.1, c.requires.0)
+
+pub rows_length-requires-2 : goal.rows_length-requires-2
+unfolding most_contacts most_ranges
+rows_length-requires-2 c =
+    (omega arith, c.requires.1, c.requires.3)
+
+pub overflow_add-result-2 : goal.overflow_add-result-2
+unfolding most_contacts most_ranges
+overflow_add-result-2 c =
+    omega (arith, c.rows_length.ensures.1, c.rows_length-2.ensures.1, c.requires.0, c.requires.1)
+
+pub returns : goal.returns
+unfolding contact_word range_word
+returns c = text_counted _ _ _ _ _ _ c.rows_length.ensures.0 c.rows_length-2.ensures.0

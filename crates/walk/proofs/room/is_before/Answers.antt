@@ -1,0 +1,7 @@
+-- `walk::room::is_before` meets its contract.
+-- Assumes nothing.
+use borrow.Author.Rules.{rules}
+use Rattle.walk.proofs.room.is_before.Goals as goal
+
+pub returns-in-Ready : goal.returns-in-Ready
+returns-in-Ready c = rw c.in-Ready.is
