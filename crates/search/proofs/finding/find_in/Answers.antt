@@ -32,16 +32,16 @@ choose-requires c =
     let filled = c.fill-last.ensures in
     let read = c.get-delivered.ensures in
     let first = c.first_row-count.ensures in
-    let some = c.if-delivered.false in (
-      (pre.0, pre.1, filled.timed, row_inside _ _ _ _ filled first.most),
-      (
+    let some = c.if-delivered.false in record {
+      service = (pre.0, pre.1, filled.timed, row_inside _ _ _ _ filled first.most);
+      by_index = (
         (λ j h. filled.rows j (le_trans h first.most)),
         delivered_at _ _ pre.1 _ _ filled _ read some,
         count_is _ _ pre.1 _ _ filled _ read some _ first,
         le_trans (count_room _ _ pre.1 _ _ filled _ read some _ first) pre.4,
         delivered_most _ _ pre.1 _ _ filled _ read some,
-      ),
-    )
+      );
+    }
 
 pub returns : goal.returns
 unfolding never_word
