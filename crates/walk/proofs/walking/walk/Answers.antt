@@ -22,18 +22,18 @@ returns-then-not-good c =
 pub returns-then-same : goal.returns-then-same
 returns-then-same c =
     same_node (true_holds c.is_plan-plan.ensures c.if-not-plan.false)
-    (true_holds (good_ask_tells _) (sym c.is_good_ask-good.ensures ∙ c.if-not-good.false)) (eqb-true _ _ c.if-same.true)
+    (true_holds (good_ask_tells _) (sym c.is_good_ask-good.ensures ∙ c.if-not-good.false)) c.if-same.true
 
 pub walk_plan-requires : goal.walk_plan-requires
 walk_plan-requires c = (
   true_holds c.is_plan-plan.ensures c.if-not-plan.false,
   true_holds (good_ask_tells _) (sym c.is_good_ask-good.ensures ∙ c.if-not-good.false),
-  eqb-false _ _ c.if-same.false,
+  c.if-same.false,
 )
 
 pub returns : goal.returns
 returns c =
     let plan = true_holds c.is_plan-plan.ensures c.if-not-plan.false in
     let good = true_holds (good_ask_tells _) (sym c.is_good_ask-good.ensures ∙ c.if-not-good.false) in
-    let differ = eqb-false _ _ c.if-same.false in
+    let differ = c.if-same.false in
     walked plan good differ (subst (WalksPlan _ _ _) (sym c.walk_plan.ensures) (walk_model_walks _ _ _ (service_sound _ plan.valid unused) good differ))
