@@ -1,9 +1,7 @@
 -- `text_rows::judge::take_contact` meets its contract.
 -- Assumes nothing.
-use mathlib.Core.Path.{refl}
 use Prim.Native.Nat.{◌+◌, ◌*◌, ◌≤◌}
 use native.Mathlib.Omega.{arith}
-use borrow.Author.Tests.{not-true, not-false}
 use lib.ListN.{length}
 use Rattle.units.specs.Limits.{most_contacts, most_ranges}
 use Rattle.text.specs.Reading.{refusal_of, too_many, bad_value, overlapping}
@@ -49,9 +47,6 @@ put_contact-requires c =
 pub overflow_add-result : goal.overflow_add-result
 unfolding most_contacts
 overflow_add-result c = omega (arith, c.if-m-ge-MOST_CONTACTS.false)
-
-pub shape_of-contacts : goal.shape_of-contacts
-shape_of-contacts c = c.put_contact.auto.0
 
 pub returns : goal.returns
 unfolding most_contacts most_ranges
