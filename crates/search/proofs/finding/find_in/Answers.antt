@@ -2,7 +2,6 @@
 -- Assumes nothing.
 use mathlib.Core.Path.{sym}
 use native.Mathlib.Nat.{le_refl, le_trans}
-use borrow.Author.Rules.{rules}
 use Rattle.search_layers.specs.Words.{never_word}
 use Rattle.search.proofs.FindCode.{row_inside, delivered_at, delivered_most, count_is, count_room, find_none, find_late, find_best}
 use Rattle.search.proofs.finding.find_in.Goals as goal

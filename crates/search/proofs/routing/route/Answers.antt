@@ -1,7 +1,6 @@
 -- `search::routing::route` meets its contract.
 -- Assumes nothing.
 use mathlib.Core.Path.{sym, ◌∙◌, subst₂}
-use borrow.Author.Rules.{rules}
 use Rattle.units.specs.Limits.{most_chain}
 use Rattle.plan.proofs.Verdicts.{true_holds, false_fails}
 use Rattle.walk.proofs.WalkCode.{good_ask_tells}
