@@ -9,6 +9,9 @@ use Rattle.desk.proofs.ask.is_ask.Goals as goal
 pub numbers-are_numbers-requires : goal.numbers-are_numbers-requires
 numbers-are_numbers-requires c = word_end _ _ c.find-end.ensures
 
+pub slice_bounds-word-end : goal.slice_bounds-word-end
+slice_bounds-word-end c = word_length _ _ c.find-end.ensures
+
 pub returns : goal.returns
 unfolding ask_word
 returns c =

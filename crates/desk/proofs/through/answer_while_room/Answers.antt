@@ -48,8 +48,5 @@ loop-at-preserved c =
     let test = c.loop-at-test.true in
     goes_on far (inside_now far _ test) c.find-end.ensures c.place_after-at.ensures (room_now far test) c.answer_into-used.ensures
 
-pub shape_of-out : goal.shape_of-out
-shape_of-out c = far_length c.loop-at.invariant
-
 pub returns : goal.returns
 returns c = far_lines c.loop-at.invariant c.loop-at-test.false
