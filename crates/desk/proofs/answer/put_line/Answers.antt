@@ -1,7 +1,6 @@
 -- `desk::answer::put_line` meets its contract.
 -- Assumes nothing.
 use native.Mathlib.Omega.{arith}
-use borrow.Author.Rules.{rules}
 use Rattle.desk.proofs.AnswerCode.{put_word_room, put_first_room, put_rest_room, put_end_room, put_whole}
 use Rattle.desk.proofs.answer.put_line.Goals as goal
 

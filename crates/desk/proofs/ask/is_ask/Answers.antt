@@ -1,6 +1,5 @@
 -- `desk::ask::is_ask` meets its contract.
 -- Assumes nothing.
-use borrow.Author.Rules.{rules}
 use Rattle.text_lines.proofs.LineCode.{word_end, word_length}
 use Rattle.desk.specs.Asks.{ask_word}
 use Rattle.desk.proofs.AskCode.{ask_by_lem, ask_row}
