@@ -3,7 +3,7 @@
 --     used             the bytes of a contact that open bookings use in a class or a higher one
 --     GoodBooking      every value in its range, every contact in the plan
 -- Assumes nothing.
-use Rattle.std.specs.Prelude.{Bool, true, false, ◌&&◌, ◌||◌, cond, List, [], ◌∷◌, ℕ, ◌+◌, ◌≤◌, leb, eqb, length}
+use Rattle.std.specs.Prelude.{Bool, false, ◌&&◌, ◌||◌, cond, List, [], ◌∷◌, ℕ, ◌+◌, ◌≤◌, leb, eqb, length}
 use Rattle.units.specs.Limits.{most_chain, most_class, most_consumption}
 use Rattle.plan.specs.Plan.{Each}
 

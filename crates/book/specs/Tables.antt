@@ -3,7 +3,7 @@
 --     book_of                 the open bookings, in the order of their places
 --     IsBook                 the tables hold a good book for a plan of m contacts: what refusal 9 asks
 -- Assumes nothing.
-use Rattle.std.specs.Prelude.{Bool, cond, List, [], ◌∷◌, ◌≡◌, ℕ, zero, suc, ◌+◌, ◌*◌, ◌≤◌, ◌<◌, eqb, length, get_or}
+use Rattle.std.specs.Prelude.{cond, List, [], ◌∷◌, ◌≡◌, ℕ, zero, suc, ◌+◌, ◌*◌, ◌≤◌, ◌<◌, eqb, length, get_or}
 use Rattle.units.specs.Limits.{most_chain, most_places}
 use Rattle.plan.specs.Tables.{rows_from}
 use Rattle.book.specs.Book.{Booking, GoodBooking}

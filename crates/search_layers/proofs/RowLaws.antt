@@ -124,12 +124,12 @@ layer_set words k v w h = ap (map when_word) (row_set words k v w h) ∙ map_set
 
 pub time_set : (words : List ℕ) (i w : ℕ) → Each TimeWord words → TimeWord w → Each TimeWord (set words i w)
 unfolding Each
-time_set [] i w each t blank k h = absurd (not-suc-le-zero h)
-time_set (x ∷ xs) zero w each t blank zero h = t
-time_set (x ∷ xs) zero w each t blank (suc k) h = each blank (suc k) h
-time_set (x ∷ xs) (suc i) w each t blank zero h = each blank zero (suc-le-suc zero-le)
-time_set (x ∷ xs) (suc i) w each t blank (suc k) h =
-    time_set xs i w (λ b j l. each b (suc j) (suc-le-suc l)) t blank k (le_of_suc-le-suc h)
+time_set [] i w each t here k h = absurd (not-suc-le-zero h)
+time_set (x ∷ xs) zero w each t here zero h = t
+time_set (x ∷ xs) zero w each t here (suc k) h = each here (suc k) h
+time_set (x ∷ xs) (suc i) w each t here zero h = each here zero (suc-le-suc zero-le)
+time_set (x ∷ xs) (suc i) w each t here (suc k) h =
+    time_set xs i w (λ b j l. each b (suc j) (suc-le-suc l)) t here k (le_of_suc-le-suc h)
 
 -- a word of a row is a time word
 pub time_row : (words : List ℕ) (k v : ℕ) → Each TimeWord words → (k + 1) * most_nodes ≤ length words → v < most_nodes → TimeWord (get_or (row_of words k) v 0)

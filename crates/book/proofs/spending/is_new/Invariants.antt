@@ -1,15 +1,12 @@
 -- `book::spending::is_new` meets its contract. The loop's invariant: the contact stands earlier in the chain exactly where it stands from place j on.
 -- Assumes nothing.
-use mathlib.Core.Path.{◌≡◌, sym, ap, ◌∙◌}
+use mathlib.Core.Path.{◌≡◌}
 use Prim.Native.Nat.{◌+◌, ◌-◌, ◌*◌}
-use native.Mathlib.Omega.{arith}
 use lib.ListN.{get_or}
 use Rattle.units.specs.Limits.{most_chain}
 use Rattle.plan.specs.Tables.{rows_from}
-use Rattle.plan.proofs.Loops.{rows_all}
 use Rattle.book.specs.Book.{names}
 use Rattle.book.specs.Model.{contacts_at}
-use Rattle.book.proofs.ChainCode.{new_stops, new_goes, new_ends}
 use Rattle.book.proofs.spending.is_new.Given as goal
 
 abbrev pub invariant-loop-j : goal.invariant-loop-j

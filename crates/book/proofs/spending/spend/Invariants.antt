@@ -1,15 +1,10 @@
 -- `book::spending::spend` meets its contract. The loop's invariant: what the places so far take is taken.
 -- Assumes nothing.
-use mathlib.Core.Path.{◌≡◌}
 use Prim.Native.Nat.{◌-◌, ◌≤◌}
-use native.Mathlib.Omega.{arith}
-use lib.ListN.{length}
 use Rattle.units.specs.Limits.{most_places}
 use Rattle.book.specs.Book.{used}
 use Rattle.book.specs.Model.{Spent}
 use Rattle.book.specs.Tables.{bookings_from}
-use Rattle.book.proofs.PlaceLaws.{place_there}
-use Rattle.book.proofs.SpendCode.{places_none, places_more, places_all, place_spendable}
 use Rattle.book.proofs.spending.spend.Given as goal
 
 abbrev pub invariant-loop-k : goal.invariant-loop-k

@@ -1,11 +1,9 @@
 -- `book::spending::spend_chain` meets its contract. The loop's invariant: the bytes are taken from the words of the contacts so far, from each once.
 -- Assumes nothing.
-use mathlib.Core.Logic.{⊎_elim}
 use mathlib.Core.Path.{sym, ◌∙◌}
-use Prim.Native.Nat.{◌-◌, ◌≤◌}
 use native.Mathlib.Omega.{arith}
-use Rattle.book.specs.Model.{contacts_at, Spent, once}
 use Rattle.book.proofs.ChainCode.{chain_starts, chain_again, word_there, chain_more, chain_whole}
+use Rattle.book.proofs.spending.spend_chain.Goals.{then-is_new, else-is_new}
 use Rattle.book.proofs.spending.spend_chain.Goals as goal
 
 pub loop-i-init : goal.loop-i-init
@@ -20,10 +18,11 @@ loop-i-preserved c =
     let told = sym c.is_new.ensures in
     let spent = c.loop-i.invariant.1 in
     let all = c.requires.1 in
-    ⊎_elim
-    (λ w. (omega arith, chain_more _ _ _ _ _ spent _ w.2.ensures _ c.loop-i-test.true all (told ∙ w.0.taken) _ (w.6 ∙ w.3.ensures)))
-    (λ w. (omega arith, rw w.1 (chain_again _ _ _ _ _ spent (told ∙ w.0.left))))
-    c.if-is_new.branch
+    elim c.if-is_new.branch [
+      | then-is_new w ↦
+          (omega arith, chain_more _ _ _ _ _ spent _ w.contact_of.ensures _ c.loop-i-test.true all (told ∙ w.if-is_new.true) _ (w.lefts-is ∙ w.spend_one.ensures))
+      | else-is_new w ↦ (omega arith, rw w.lefts-is (chain_again _ _ _ _ _ spent (told ∙ w.if-is_new.false)))
+    ]
 
 pub shape_of-lefts : goal.shape_of-lefts
 shape_of-lefts c = c.loop-i.invariant.1.same_length

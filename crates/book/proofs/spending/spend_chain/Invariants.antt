@@ -1,11 +1,7 @@
 -- `book::spending::spend_chain` meets its contract. The loop's invariant: the bytes are taken from the words of the contacts so far, from each once.
 -- Assumes nothing.
-use mathlib.Core.Logic.{⊎_elim}
-use mathlib.Core.Path.{sym, ◌∙◌}
 use Prim.Native.Nat.{◌-◌, ◌≤◌}
-use native.Mathlib.Omega.{arith}
 use Rattle.book.specs.Model.{contacts_at, Spent, once}
-use Rattle.book.proofs.ChainCode.{chain_starts, chain_again, word_there, chain_more, chain_whole}
 use Rattle.book.proofs.spending.spend_chain.Given as goal
 
 abbrev pub invariant-loop-i : goal.invariant-loop-i

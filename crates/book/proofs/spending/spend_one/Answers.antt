@@ -1,6 +1,5 @@
 -- `book::spending::spend_one` meets its contract.
 -- Assumes nothing.
-use borrow.Author.Rules.{rules}
 use Rattle.book.proofs.spending.spend_one.Goals as goal
 
 pub returns : goal.returns

@@ -3,7 +3,6 @@
 use mathlib.Core.Path.{sym, ◌∙◌}
 use Prim.Native.Nat.{◌≤◌, ◌<◌}
 use native.Mathlib.Omega.{arith}
-use borrow.Author.Rules.{rules}
 use borrow.Author.Tests.{eqb-true}
 use Rattle.book.proofs.SpendCode.{place_closed, place_lower, place_taken}
 use Rattle.book.proofs.spending.spend_place.Goals as goal

@@ -1,13 +1,9 @@
 -- `book::valid::are_named` meets its contract. The loop's invariant: each contact so far is in the plan.
 -- Assumes nothing.
 use Prim.Native.Nat.{ℕ, ◌+◌, ◌-◌, ◌*◌, ◌<◌}
-use native.Mathlib.Omega.{arith}
-use borrow.Author.Rules.{rules}
-use borrow.Author.Tests.{not-true, not-false}
 use lib.ListN.{get_or}
 use Rattle.units.specs.Limits.{most_chain}
 use Rattle.book.specs.Book.{Named}
-use Rattle.book.proofs.ValidCode.{chain_stops, chain_goes, chain_ends}
 use Rattle.book.proofs.valid.are_named.Given as goal
 
 abbrev pub invariant-loop-i : goal.invariant-loop-i

@@ -1,16 +1,8 @@
 -- `book::valid::is_book` meets its contract. The loop's invariant: each place so far is good.
 -- Assumes nothing.
 use Prim.Native.Nat.{ℕ, ◌-◌, ◌<◌}
-use native.Mathlib.Nat.{not-le_of_lt}
-use native.Mathlib.Omega.{arith}
-use borrow.Author.Count.{below_more}
-use borrow.Author.Rules.{rules}
-use borrow.Author.Tests.{not-true, not-false}
-use Rattle.units.specs.Limits.{most_places, most_chain}
-use Rattle.plan.specs.Verdict.{fails}
-use Rattle.plan.proofs.Verdicts.{true_holds}
+use Rattle.units.specs.Limits.{most_places}
 use Rattle.book.specs.Tables.{GoodPlace}
-use Rattle.book.proofs.ValidCode.{book_stops, book_ends}
 use Rattle.book.proofs.valid.is_book.Given as goal
 
 abbrev pub invariant-loop-k : goal.invariant-loop-k

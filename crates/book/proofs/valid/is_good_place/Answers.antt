@@ -1,7 +1,6 @@
 -- `book::valid::is_good_place` meets its contract.
 -- Assumes nothing.
 use mathlib.Core.Path.{sym, ◌∙◌}
-use borrow.Author.Rules.{rules}
 use borrow.Author.Tests.{eqb-true, eqb-false}
 use Rattle.book.proofs.ValidCode.{open_tells, closed_tells}
 use Rattle.book.proofs.valid.is_good_place.Goals as goal

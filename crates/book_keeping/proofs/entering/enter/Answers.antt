@@ -1,7 +1,6 @@
 -- `book_keeping::entering::enter` meets its contract.
 -- Assumes nothing.
 use mathlib.Core.Path.{◌∙◌}
-use borrow.Author.Rules.{rules}
 use Rattle.book_keeping.proofs.PlaceStores.{entered_sets}
 use Rattle.book_keeping.proofs.entering.enter.Goals as goal
 

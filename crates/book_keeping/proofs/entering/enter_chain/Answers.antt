@@ -1,11 +1,9 @@
 -- `book_keeping::entering::enter_chain` meets its contract. The loop's invariant: the numbers so far are stored.
 -- Assumes nothing.
-use Prim.Native.Nat.{◌-◌}
 use native.Mathlib.Omega.{arith}
-use lib.ListN.{length}
 use Rattle.units.specs.Limits.{most_chain}
 use Rattle.plan.specs.Plan.{Each}
-use Rattle.book_keeping.proofs.EnterCode.{Stored, stored_none, stored_long, stored_more, stored_all}
+use Rattle.book_keeping.proofs.EnterCode.{stored_none, stored_long, stored_more, stored_all}
 use Rattle.book_keeping.proofs.entering.enter_chain.Goals as goal
 
 pub loop-i-init : goal.loop-i-init

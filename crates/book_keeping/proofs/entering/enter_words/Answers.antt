@@ -2,7 +2,6 @@
 -- Assumes nothing.
 use Prim.Native.Nat.{◌*◌}
 use native.Mathlib.Omega.{arith}
-use borrow.Author.Rules.{rules}
 use lib.ListN.{length-set}
 use Rattle.book.specs.Tables.{place_words, open_mark}
 use Rattle.book_keeping.proofs.Stores.{four_sets}

@@ -1,6 +1,5 @@
 -- `book_keeping::freeing::free` meets its contract.
 -- Assumes nothing.
-use borrow.Author.Rules.{rules}
 use Rattle.book_keeping.proofs.PlaceStores.{freed_set}
 use Rattle.book_keeping.proofs.freeing.free.Goals as goal
 

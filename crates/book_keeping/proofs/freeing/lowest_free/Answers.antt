@@ -1,11 +1,9 @@
 -- `book_keeping::freeing::lowest_free` meets its contract. The loop's invariant: no place so far is free.
 -- Assumes nothing.
-use mathlib.Core.Path.{◌≡◌, sym, ◌∙◌}
-use Prim.Native.Nat.{ℕ, ◌-◌, ◌≤◌, ◌<◌}
+use mathlib.Core.Path.{sym, ◌∙◌}
 use native.Mathlib.Omega.{arith}
 use borrow.Author.Count.{below_more}
 use Rattle.units.specs.Limits.{most_places}
-use Rattle.book.specs.Tables.{free_mark, mark_at}
 use Rattle.book_keeping.specs.Keeping.{AllOpen}
 use Rattle.book_keeping.specs.Model.{lowest, none_free}
 use Rattle.book_keeping.proofs.freeing.lowest_free.Goals as goal

@@ -21,10 +21,11 @@ pub try_changed-changed-requires : goal.try_changed-changed-requires
 unfolding most_nodes
 try_changed-changed-requires c =
     let so_far = c.loop-tried.invariant.1 in
-    let pre = c.requires in (
-      (pre.0, pre.1, so_far.timed, omega (arith, so_far.long, pre.3), pre.6, record { least = omega arith; most = omega (arith, c.loop-tried-test.true) }),
-      (older_kept _ _ _ _ _ so_far.long so_far.kept pre.5, still_lower _ _ _ _ pre.4 so_far),
-    )
+    let pre = c.requires in
+    record {
+      service = (pre.0, pre.1, so_far.timed, omega (arith, so_far.long, pre.3), pre.6, record { least = omega arith; most = omega (arith, c.loop-tried-test.true) });
+      older = (older_kept _ _ _ _ _ so_far.long so_far.kept pre.5, still_lower _ _ _ _ pre.4 so_far);
+    }
 
 pub loop-tried-smaller-then-changed : goal.loop-tried-smaller-then-changed
 loop-tried-smaller-then-changed c = omega (arith, c.loop-tried-test.true)

@@ -10,7 +10,7 @@ use Rattle.search_layers.proofs.trying.try_changed.Goals as goal
 pub returns-then-get : goal.returns-then-get
 returns-then-get c =
     let pre = c.requires in
-    (tried_skipped _ _ _ _ _ pre.0.3 pre.0.2 (node_below _ pre.0.5) pre.1.0 pre.1.1 _ _ c.get.ensures c.get-2.ensures c.if-get.true, λ e. refl)
+    (tried_skipped _ _ _ _ _ pre.service.3 pre.service.2 (node_below _ pre.service.5) pre.older.0 pre.older.1 _ _ c.get.ensures c.get-2.ensures c.if-get.true, λ e. refl)
 
 pub returns : goal.returns
 returns c = (c.try_from.ensures, λ e. absurd (subst T e tt))

@@ -20,7 +20,7 @@ loop-i-init c = let pre = c.requires in λ v node e. seen_first _ _ _ _ _ _ _ _ 
 pub try_contact-requires : goal.try_contact-requires
 try_contact-requires c =
     let pre = c.requires in
-    let seen = c.loop-i.invariant _ (node_below _ pre.5) c.first_from_lem.ensures in
+    let seen = c.loop-i.invariant _ (node_below _ pre.5) c.first_from-i.ensures in
     let below = c.loop-i-test.true in (
       pre.0,
       pre.1,
@@ -48,8 +48,8 @@ loop-i-preserved c =
 
 pub shape_of-words : goal.shape_of-words
 shape_of-words c =
-    (c.loop-i.invariant _ (node_below _ c.requires.5) c.first_from_lem.ensures).tried.long
+    (c.loop-i.invariant _ (node_below _ c.requires.5) c.first_from-i.ensures).tried.long
 
 pub returns : goal.returns
 returns c =
-    seen_all _ _ _ _ _ _ _ _ _ _ c.loop-i-test.false (c.loop-i.invariant _ (node_below _ c.requires.5) c.first_from_lem.ensures)
+    seen_all _ _ _ _ _ _ _ _ _ _ c.loop-i-test.false (c.loop-i.invariant _ (node_below _ c.requires.5) c.first_from-i.ensures)

@@ -24,15 +24,15 @@ pub returns-then-not-has_header : goal.returns-then-not-has_header
 unfolding most_contacts most_ranges most_text
 returns-then-not-has_header c =
     refused _ c.if-contacts.false c.if-ranges.false
-    (headless_read _ c.if-text-gt-MOST_TEXT.false _ c.has_header.ensures (not-true _ c.if-not-has_header.true))
+    (headless_read _ c.if-text-gt-MOST_TEXT.false _ c.has_header.ensures c.if-not-has_header.true)
 
 pub read_rows-requires : goal.read_rows-requires
 unfolding most_contacts most_ranges
 read_rows-requires c =
-    (c.if-contacts.false, c.if-ranges.false, header_there _ _ c.has_header.ensures (not-false _ c.if-not-has_header.false))
+    (c.if-contacts.false, c.if-ranges.false, header_there _ _ c.has_header.ensures c.if-not-has_header.false)
 
 pub returns : goal.returns
 unfolding most_contacts most_ranges most_text
 returns c =
-    body_read _ c.if-text-gt-MOST_TEXT.false _ c.has_header.ensures (not-false _ c.if-not-has_header.false) _ _ _ _ _ c.if-contacts.false
+    body_read _ c.if-text-gt-MOST_TEXT.false _ c.has_header.ensures c.if-not-has_header.false _ _ _ _ _ c.if-contacts.false
     c.if-ranges.false c.read_rows.ensures

@@ -10,7 +10,7 @@ use Rattle.text_read.proofs.reader.read_through.Goals as goal
 
 pub read_lines-requires : goal.read_lines-requires
 read_lines-requires c =
-    (c.pre.0, c.pre.1, c.pre.4)
+    (c.requires.0, c.requires.1, c.requires.4)
 
 pub overflow_mul-m : goal.overflow_mul-m
 unfolding most_contacts most_ranges
@@ -22,7 +22,7 @@ pub copy_words-requires : goal.copy_words-requires
 unfolding most_contacts most_ranges
 copy_words-requires c =
     let t = gives_rows _ _ _ _ c.read_lines.ensures _ _ c.in-Rows.is in
-    let pre = c.pre in
+    let pre = c.requires in
     (omega (arith, t.0, pre.0, c.read_lines.kept.1.0), omega (arith, t.0, pre.2))
 
 pub overflow_mul-n : goal.overflow_mul-n
@@ -35,7 +35,7 @@ pub copy_words-requires-in-Rows : goal.copy_words-requires-in-Rows
 unfolding most_contacts most_ranges
 copy_words-requires-in-Rows c =
     let t = gives_rows _ _ _ _ c.read_lines.ensures _ _ c.in-Rows.is in
-    let pre = c.pre in
+    let pre = c.requires in
     (omega (arith, t.1, pre.1, c.read_lines.kept.1.1.0), omega (arith, t.1, pre.3))
 
 pub shape_of-passes-in-Rows : goal.shape_of-passes-in-Rows
@@ -60,10 +60,10 @@ returns-in-Rows c =
     let m = c.in-Rows.m in
     let n = c.in-Rows.n in
     let read = c.read_lines in
-    let hp : m * 5 ≤ length read.last.1.0 = omega (arith, t.0, c.pre.0, read.kept.1.0) in
-    let hl : n * 5 ≤ length read.last.1.1.0 = omega (arith, t.1, c.pre.1, read.kept.1.1.0) in
-    let hc : m * 5 ≤ length c.args.contacts.now = omega (arith, t.0, c.pre.2) in
-    let hr : n * 5 ≤ length c.args.ranges.now = omega (arith, t.1, c.pre.3) in
+    let hp : m * 5 ≤ length read.last.1.0 = omega (arith, t.0, c.requires.0, read.kept.1.0) in
+    let hl : n * 5 ≤ length read.last.1.1.0 = omega (arith, t.1, c.requires.1, read.kept.1.1.0) in
+    let hc : m * 5 ≤ length c.args.contacts.now = omega (arith, t.0, c.requires.2) in
+    let hr : n * 5 ≤ length c.args.ranges.now = omega (arith, t.1, c.requires.3) in
     copied_rows _ read.last.1.0 read.last.1.1.0 _ read.ensures c.args.contacts.now c.args.ranges.now m n
     c.in-Rows.is hp hl hc hr _ _ c.copy_words.ensures c.copy_words-in-Rows.ensures
 
