@@ -1,7 +1,7 @@
 /*
  * Oivarnum for C (C99): contact plans read and written, a chain of contacts timed, the best chain found and booked.
  *
- * Link target/staticlib/libboard.a, which `rt staticlib board` writes. It links into x86-64 programs (System V calling
+ * Link target/staticlib/libboard.a, which `bash tools/build` writes. It links into x86-64 programs (System V calling
  * convention, as on Linux) and takes nothing else but memcpy and memset. It has no heap and no state of its own: two threads
  * may call at the same time on memory that is not the same.
  *

@@ -6,7 +6,7 @@
  * numbers after the file: source destination time size deadline excluded. It ends with 1 where two answers that must agree do
  * not.
  *
- *     rt staticlib board
+ *     bash tools/build
  *     gcc -std=c99 -Wall -Wextra -I include -o target/board_example examples/c/board.c target/staticlib/libboard.a
  *     target/board_example
  */

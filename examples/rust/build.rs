@@ -1,5 +1,5 @@
 //! Links the archive `libboard.a`: from the folder that OIVARNUM_ARCHIVE
-//! names, or else from where `rt staticlib board` leaves it.
+//! names, or else from where `bash tools/build` leaves it.
 
 use std::path::PathBuf;
 use std::process::exit;
@@ -13,7 +13,7 @@ fn main() {
     let archive = folder.join("libboard.a");
     let Ok(archive) = archive.canonicalize() else {
         eprintln!("There is no archive {}.", archive.display());
-        eprintln!("Make it by `rt staticlib board`, or let {VARIABLE} name its folder.");
+        eprintln!("Make it by `bash tools/build`, or let {VARIABLE} name its folder.");
         exit(1);
     };
     println!("cargo:rerun-if-changed={}", archive.display());

@@ -3,7 +3,7 @@
 //! after each call every lent word and byte, with guards before and behind.
 //!
 //! ```sh
-//! rt staticlib board
+//! bash tools/build
 //! cd harness
 //! cargo run --release --offline -- [--seed N] [--calls N] [--threads N]
 //! cargo run --release --offline -- --seed N --only N

@@ -2,7 +2,7 @@
 //! plan back.
 //!
 //! ```sh
-//! rt staticlib board
+//! bash tools/build
 //! cd examples/rust
 //! cargo run --offline -- PLAN SOURCE DESTINATION TIME SIZE DEADLINE EXCLUDED
 //! ```
