@@ -6,7 +6,7 @@
 use mathlib.Core.Path.{◌≡◌}
 use mathlib.Core.List.Memᴰ
 use mathlib.Core.List.{List, [], ◌∷◌, map, Memᴰ}
-use mathlib.Core.Logic.{⊎_elim, ◌≢◌}
+use mathlib.Core.Logic.{◌⊎◌, inl, inr, ⊎_elim, ◌≢◌}
 use Prim.Native.Nat.{ℕ, ◌-◌, ◌≤◌, ◌<◌}
 use native.Mathlib.Nat.{le_refl, le_trans}
 use native.Mathlib.Omega.{arith}
@@ -33,16 +33,24 @@ pub record Direct (N : Network) (v r : ℕ) : Type 0 where
 no_later_than : {N : Network} {v s r : ℕ} → s ≤ r → Direct N v s → Direct N v r
 no_later_than h d = record { chain = d.chain; time = d.time; arrives = d.arrives; no_later = le_trans d.no_later h; distinct = d.distinct }
 
+-- a number that stands in a list is its first, or stands in the rest
+first_or_later : {v u : ℕ} {xs : List ℕ} → Memᴰ v (u ∷ xs) → (v ≡ u) ⊎ Memᴰ v xs
+first_or_later (Memᴰ.head e) = inl e
+first_or_later (Memᴰ.tail m) = inr m
+
 module _ (N : Network) (L : Laws N) where
   -- no file is ready behind a contact before it is ready before it
   step_after : {c t r : ℕ} → IsContact N c → N.step c t ≡ at r → t ≤ r
   step_after {c} {t} i e = not_later_times (rw e at (L.after c t i))
 
+  whole : {cs : List ℕ} {u s v : ℕ} → Arrives N cs u s → Distinct (visited N cs u) → v ≡ u → Direct N v s
+  whole {cs} {u} {s} a d e = record { chain = cs; time = s; arrives = rw e a; no_later = le_refl s; distinct = rw e d }
+
   -- a node that the chain visits is reached by its part up to there
   part_to : {cs : List ℕ} {u s v : ℕ} → Arrives N cs u s → Distinct (visited N cs u) → Memᴰ v (visited N cs u) → Direct N v s
-  part_to {cs} {u} {s} a d (Memᴰ.head e) = record { chain = cs; time = s; arrives = rw e a; no_later = le_refl s; distinct = rw e d }
-  part_to starts d (Memᴰ.tail m) = absurd (Memᴰ.not-nil m)
-  part_to (comes i a step to) (apart _ d) (Memᴰ.tail m) = no_later_than (step_after i step) (part_to a d m)
+  part_to starts d m = ⊎_elim (whole starts d) (λ k. absurd (Memᴰ.not-nil k)) (first_or_later m)
+  part_to (comes i a step to) (apart n d) m =
+      ⊎_elim (whole (comes i a step to) (apart n d)) (λ k. no_later_than (step_after i step) (part_to a d k)) (first_or_later m)
 
   pub cut_loops : {cs : List ℕ} {v r : ℕ} → Arrives N cs v r → Direct N v r
   cut_loops starts = record { chain = []; time = N.begin; arrives = starts; no_later = le_refl _; distinct = apart none empty }

@@ -3,21 +3,24 @@
 --     first_unique     of chains of any kind, two that are each the first by the order of choice are the same, and deliver at the same time
 --     best_unique      so are two best chains to a node
 -- Assumes nothing.
-use mathlib.Core.Path.{◌≡◌, sym}
-use mathlib.Core.List.{List}
-use mathlib.Core.Logic.{◌⊎◌, inl, inr}
-use Prim.Native.Nat.{ℕ, ◌≤◌}
+use mathlib.Core.Path.{◌≡◌, refl, sym}
+use mathlib.Core.List.{List, ◌∷◌}
+use mathlib.Core.Logic.{◌⊎◌, inl, inr, ⊎_elim}
+use Prim.Native.Nat.{ℕ, ◌≤◌, ◌<◌}
 use native.Mathlib.Nat.{le_antisymm}
 use native.Mathlib.Omega.{arith}
 use lib.ListN.{length}
 use Rattle.network.specs.Network.{Network}
 use Rattle.network.specs.Best.{LowerFirst, here, there, LowerBack, Reaches, Best}
 
+-- of two chains the first is lower at its first number, or is the same there and lower behind it
+first_difference : {x y : ℕ} {xs ys : List ℕ} → LowerFirst (x ∷ xs) (y ∷ ys) → (x < y) ⊎ ((x ≡ y) × LowerFirst xs ys)
+first_difference (here h) = inl h
+first_difference (there p) = inr (refl, p)
+
 lower_asym : {xs ys : List ℕ} → LowerFirst xs ys → LowerFirst ys xs → ⊥
-lower_asym (here h) (here k) = omega arith
-lower_asym (here h) (there q) = omega arith
-lower_asym (there p) (here k) = omega arith
-lower_asym (there p) (there q) = lower_asym p q
+lower_asym (here h) q = ⊎_elim (λ k. omega arith) (λ k. let e = k.0 in omega arith) (first_difference q)
+lower_asym (there p) q = ⊎_elim (λ k. omega arith) (λ k. lower_asym p k.1) (first_difference q)
 
 -- where `Goes chain r` says that the chain is one of those to choose from, and delivers at r: it is the one to choose
 pub record First (Goes : List ℕ → ℕ → Type 0) (chain : List ℕ) (r : ℕ) : Type 0 where

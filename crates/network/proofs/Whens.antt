@@ -29,6 +29,7 @@ not_later_antisym last last = refl
 
 pub not_later_within : {a b : When} {limit : ℕ} → NotLater a b → Within b limit → Within a limit
 not_later_within (both h) (within k) = within (lt_of_le_of_lt h k)
+not_later_within {a = a} {limit = limit} last x4 = elim x4 [ ]
 
 pub earlier_left : (a b : When) → NotLater (earlier a b) a
 unfolding earlier

@@ -73,7 +73,7 @@ rows_next N words exit k m em r l = record {
       ⊎_elim
       (λ e.
       let es : j ≡ suc k = e ∙ add-one k in
-      rw es (l.is ∙ rw (r.rows k (le_refl k), em)))
+      rw es (l.is ∙ ap (λ (b : List When). relaxed N b m) (r.rows k (le_refl k)) ∙ ap (λ (n : ℕ). relaxed N (layer N k) n) (sym em)))
       (λ h'. layer_kept words exit k j l (λ e. absurd (omega arith)) ∙ r.rows j (omega arith))
       (eq-or-lt_of_le h);
 }

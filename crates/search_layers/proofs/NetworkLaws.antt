@@ -53,6 +53,7 @@ arrival_not_later a Never h = last
 
 within_arrival : (a : Arrival) {limit : ℕ} → Within (when_of a) limit → (x : Millis) × (a ≡ Ready x) × (x.0 < limit)
 within_arrival (Ready x) (within h) = (x, refl, h)
+within_arrival Never {limit = limit} x' = elim x' [ ]
 
 -- the laws of one hop
 module _ (light : Light) (left : ℕ) (x : Contact) (size : ℕ) where

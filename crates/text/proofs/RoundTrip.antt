@@ -81,6 +81,10 @@ module _ {cs rs : List ℕ} {m n : ℕ} (p : IsPlan cs m rs n) where
 pub read_after_write : {cs rs out out' : List ℕ} {m n k : ℕ} → Writes cs m rs n out (Length k) out'
     → {contacts ranges ds ss : List ℕ} {a : PlanRead} → most_contacts * words ≤ length contacts → most_ranges * words ≤ length ranges
     → Reads (take k out') contacts ranges a ds ss → (a ≡ Rows m n) × (plan_of ds m ss n ≡ plan_of cs m rs n)
-read_after_write {cs} {rs} {out} {m} {n} (written p room) {contacts} {ranges} {ds} {ss} {a} lc lr reads =
-    read_text p lc lr
-    (subst (λ (bs : List ℕ). Reads bs contacts ranges a ds ss) (take-append_seam (text_of cs m rs n) (drop (length (text_of cs m rs n)) out)) reads)
+read_after_write {cs} {rs} {out} {out'} {m} {n} {k} wrote {contacts} {ranges} {ds} {ss} {a} lc lr reads = go cs rs out m n k out' wrote reads
+  where
+    go : (cs rs out : List ℕ) (m n k : ℕ) (out' : List ℕ) → Writes cs m rs n out (Length k) out'
+        → Reads (take k out') contacts ranges a ds ss → (a ≡ Rows m n) × (plan_of ds m ss n ≡ plan_of cs m rs n)
+    go cs rs out m n k out' (written p room) reads =
+        read_text p lc lr
+        (subst (λ (bs : List ℕ). Reads bs contacts ranges a ds ss) (take-append_seam (text_of cs m rs n) (drop (length (text_of cs m rs n)) out)) reads)

@@ -65,15 +65,15 @@ module _ (p : Service) (valid : Sound p) (ask : Ask) (chain : List ℕ) where
       below m l i (no q) = absurd (h (omega arith, in_time_smaller (omega arith) i))
 
   module _ (differ : ask.source.0 ≡ ask.destination.0 → ⊥) where
-    bits_left : (n b : ℕ) → SoFar p ask chain n b → SoFar p ask chain (room_from p ask chain n b) 0
+    bits_left : (b n : ℕ) → SoFar p ask chain n b → SoFar p ask chain (room_from p ask chain n b) 0
     unfolding room_from
-    bits_left n zero s = s
-    bits_left n (suc b) s = bits_left _ b (next_bit n b _ s (both (tells_le (n + 2 ^ b) most_size) (size_tells p ask differ chain (n + 2 ^ b))))
+    bits_left zero n s = s
+    bits_left (suc b) n s = bits_left b _ (next_bit n b _ s (both (tells_le (n + 2 ^ b) most_size) (size_tells p ask differ chain (n + 2 ^ b))))
 
     -- on its own, so that `room_of` unfolds in nothing that computes
     all_bits : SoFar p ask chain 0 size_bits → SoFar p ask chain (room_of p ask chain) 0
     unfolding room_of
-    all_bits s = bits_left 0 size_bits s
+    all_bits s = bits_left size_bits 0 s
 
     pub room_is : GoodAsk ask → {r : ℕ} → Allowed p ask chain r → r < ask.deadline.0 → IsRoom p ask chain (room_of p ask chain)
     unfolding most_size

@@ -71,9 +71,9 @@ module _ {p : Service} {ask : Ask} where
   carried_faultless i zero chain h l a b f = not-suc-le-zero h
   carried_faultless i (suc j) [] h l a b f = not-suc-le-zero l
   carried_faultless zero (suc j) (c ∷ cs) h l (hops i o e q a) stays f = passes_faultless (record { in_plan = i; joined = o; unbarred = e; hop = q }) f
-  carried_faultless {w} {s} (suc i) (suc j) (c ∷ cs) h l (hops n o e q a) (hops n' o' e' q' b) f =
+  carried_faultless {u = u} {w = w} {s = s} (suc i) (suc j) (c ∷ cs) h l (hops n o e q a) (hops n' o' e' q' b) f =
       let same = (carries_determined (hops n' o' e' q' stays) (hops n o e q stays)).1 in
-      carried_faultless i j cs (le_of_suc-le-suc h) (le_of_suc-le-suc l) a
+      carried_faultless {u = (contact_of p c).to.0} i j cs (le_of_suc-le-suc h) (le_of_suc-le-suc l) a
       (subst (λ (m : ℕ). Carries p ask (contact_of p c).to.0 m (take i cs) w s) same b) f
 
 -- the fault of the number 18 + n
@@ -135,17 +135,32 @@ module _ (p : Service) (ask : Ask) (u t i c : ℕ) where
   named_tells : Verdict (InPlan p c) (leb 1 c && leb c (length p.contacts))
   named_tells = restated (λ q. record { least = q.0; most = q.1 }) (λ g. (g.least, g.most)) (both (tells_le 1 c) (tells_le c (length p.contacts)))
 
+  -- what a fault says of the contact
+  abbrev Told : Refusal → Type 0
+  Told (NoContact _) = InPlan p c → ⊥
+  Told (NotJoined _) = (contact_of p c).from.0 ≡ u → ⊥
+  Told (ExcludedNode _) = is_barred ask (contact_of p c) ≡ true
+  Told (NotRanged _) = light_in p c ≡ Unranged
+  Told _ = Unit {0}
+
+  told : {why : Refusal} → HasFault p ask u t i c why → Told why
+  told (no_contact n) = n
+  told (not_joined l n) = n
+  told (excluded_node l e) = e
+  told (not_ranged l e) = e
+  told (not_fitting l n) = tt
+
   told_named : HasFault p ask u t i c (NoContact i) → InPlan p c → ⊥
-  told_named (no_contact n) = n
+  told_named f = told f
 
   told_joined : HasFault p ask u t i c (NotJoined i) → (contact_of p c).from.0 ≡ u → ⊥
-  told_joined (not_joined l n) = n
+  told_joined f = told f
 
   told_barred : HasFault p ask u t i c (ExcludedNode i) → is_barred ask (contact_of p c) ≡ true
-  told_barred (excluded_node l e) = e
+  told_barred f = told f
 
   told_ranged : HasFault p ask u t i c (NotRanged i) → light_in p c ≡ Unranged
-  told_ranged (not_ranged l e) = e
+  told_ranged f = told f
 
   -- what is ranged and fits carries the file on
   unfit : (m : Millis) → light_in p c ≡ Of m → over_contact p ask c t ≡ Never → Fits p ask t c → ⊥

@@ -8,4 +8,4 @@ pub returns-then-not-ordered : goal.returns-then-not-ordered
 returns-then-not-ordered c = never_true
 
 pub returns : goal.returns
-returns c = λ e. (not-false _ c.if-not-ordered.false, leb-true _ _ e)
+returns c = λ e. (c.if-not-ordered.false, leb-true _ _ e)

@@ -34,7 +34,7 @@ pub returns : goal.returns
 returns c =
     let pre = c.requires in
     let past = past_again _ _ _ _ _ _ c.begin_at-begin.ensures c.pass_over-past.ensures in (
-      passed_behind _ _ _ pre.0 (pre.1 (not-false _ c.if-not-ordered.false)) _ _ _ past _ c.next_of.ensures,
+      passed_behind _ _ _ pre.0 (pre.1 c.if-not-ordered.false) _ _ _ past _ c.next_of.ensures,
       kept_more _ _ _ pre.2 _ _ pre.3 past.has,
       simp length-set refl,
     )

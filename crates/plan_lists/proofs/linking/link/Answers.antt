@@ -73,7 +73,7 @@ loop-i-preserved-then-not-is_followed c =
       linked_row _ _ _ _ _ _ _ some inv.0 (slot_found _ _ _ _ c.span_row-row.ensures c.slot_of-slot.ensures.0)
           c.narrow-in-loop-i.ensures inside there inv.3,
       ordered_stops _ _ c.loop-i.nexts _ some inv.0 there _ _ _ _ c.span_row-row.ensures c.wide.ensures
-          c.is_followed.ensures (not-true _ c.if-not-is_followed.true),
+          c.is_followed.ensures c.if-not-is_followed.true,
     )
 
 -- it is
@@ -93,7 +93,7 @@ loop-i-preserved c =
       linked_row _ _ _ _ _ _ _ some inv.0 (slot_found _ _ _ _ c.span_row-row.ensures c.slot_of-slot.ensures.0)
           c.narrow-in-loop-i.ensures inside there inv.3,
       ordered_stays _ _ _ _ some inv.0 there _ _ _ _ c.span_row-row.ensures c.wide.ensures
-          c.is_followed.ensures _ (not-false _ c.if-not-is_followed.false) inv.4,
+          c.is_followed.ensures _ c.if-not-is_followed.false inv.4,
     )
 
 pub shape_of-heads : goal.shape_of-heads

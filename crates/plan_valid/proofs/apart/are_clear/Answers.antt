@@ -18,11 +18,11 @@ is_clear_after-requires c =
 pub returns-then-not-is_clear_after : goal.returns-then-not-is_clear_after
 unfolding Apart
 returns-then-not-is_clear_after c =
-    below_stops _ _ _ c.is_clear_after.ensures _ c.loop-i-test.true (not-true _ c.if-not-is_clear_after.true)
+    below_stops _ _ _ c.is_clear_after.ensures _ c.loop-i-test.true c.if-not-is_clear_after.true
 
 pub loop-i-preserved : goal.loop-i-preserved
 loop-i-preserved c =
-    below_goes _ _ _ c.is_clear_after.ensures (not-false _ c.if-not-is_clear_after.false) c.loop-i.invariant
+    below_goes _ _ _ c.is_clear_after.ensures c.if-not-is_clear_after.false c.loop-i.invariant
 
 pub returns : goal.returns
 unfolding Apart

@@ -16,12 +16,12 @@ loop-k-init c = ap (each good_contact) (rows_all _ _)
 pub returns-then-not-is_good_contact : goal.returns-then-not-is_good_contact
 returns-then-not-is_good_contact c =
     each_stops good_contact _ _ _ _ c.loop-k.invariant c.loop-k-test.true _ c.contact_row.ensures _
-    c.is_good_contact.ensures (not-true _ c.if-not-is_good_contact.true)
+    c.is_good_contact.ensures c.if-not-is_good_contact.true
 
 pub loop-k-preserved : goal.loop-k-preserved
 loop-k-preserved c =
     each_goes good_contact _ _ _ _ c.loop-k.invariant c.loop-k-test.true _ c.contact_row.ensures _
-    c.is_good_contact.ensures (not-false _ c.if-not-is_good_contact.false)
+    c.is_good_contact.ensures c.if-not-is_good_contact.false
 
 pub returns : goal.returns
 returns c = each_ends good_contact _ _ _ _ c.loop-k.invariant c.loop-k-test.false

@@ -16,12 +16,12 @@ loop-k-init c = ap (each good_range) (rows_all _ _)
 pub returns-then-not-is_good_range : goal.returns-then-not-is_good_range
 returns-then-not-is_good_range c =
     each_stops good_range _ _ _ _ c.loop-k.invariant c.loop-k-test.true _ c.range_row.ensures _
-    c.is_good_range.ensures (not-true _ c.if-not-is_good_range.true)
+    c.is_good_range.ensures c.if-not-is_good_range.true
 
 pub loop-k-preserved : goal.loop-k-preserved
 loop-k-preserved c =
     each_goes good_range _ _ _ _ c.loop-k.invariant c.loop-k-test.true _ c.range_row.ensures _
-    c.is_good_range.ensures (not-false _ c.if-not-is_good_range.false)
+    c.is_good_range.ensures c.if-not-is_good_range.false
 
 pub returns : goal.returns
 returns c = each_ends good_range _ _ _ _ c.loop-k.invariant c.loop-k-test.false

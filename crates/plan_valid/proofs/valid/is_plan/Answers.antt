@@ -24,22 +24,22 @@ pub returns-then-ranges-range_count : goal.returns-then-ranges-range_count
 returns-then-ranges-range_count c = fails (λ p. not-le_of_lt c.if-ranges-range_count.true p.ranges_lent)
 
 pub returns-then-not-are_good_contacts : goal.returns-then-not-are_good_contacts
-returns-then-not-are_good_contacts c = fails (contacts_bad _ _ _ c.are_good_contacts.ensures _ _ (not-true _ c.if-not-are_good_contacts.true))
+returns-then-not-are_good_contacts c = fails (contacts_bad _ _ _ c.are_good_contacts.ensures _ _ c.if-not-are_good_contacts.true)
 
 pub returns-then-not-are_good_ranges : goal.returns-then-not-are_good_ranges
-returns-then-not-are_good_ranges c = fails (ranges_bad _ _ _ c.are_good_ranges.ensures _ _ (not-true _ c.if-not-are_good_ranges.true))
+returns-then-not-are_good_ranges c = fails (ranges_bad _ _ _ c.are_good_ranges.ensures _ _ c.if-not-are_good_ranges.true)
 
 pub are_rows_apart-requires : goal.are_rows_apart-requires
 unfolding most_contacts most_ranges
 are_rows_apart-requires c = (
-  contact_spans _ _ _ c.are_good_contacts.ensures c.if-contact_count-gt-MOST_CONTACTS.false c.if-contacts-contact_count.false (not-false _ c.if-not-are_good_contacts.false),
-  range_spans _ _ _ c.are_good_ranges.ensures c.if-range_count-gt-MOST_RANGES.false c.if-ranges-range_count.false (not-false _ c.if-not-are_good_ranges.false),
+  contact_spans _ _ _ c.are_good_contacts.ensures c.if-contact_count-gt-MOST_CONTACTS.false c.if-contacts-contact_count.false c.if-not-are_good_contacts.false,
+  range_spans _ _ _ c.are_good_ranges.ensures c.if-range_count-gt-MOST_RANGES.false c.if-ranges-range_count.false c.if-not-are_good_ranges.false,
 )
 
 pub returns : goal.returns
 unfolding most_contacts most_ranges
 returns c =
     plan_tells _ _ _ _ c.if-contact_count-gt-MOST_CONTACTS.false c.if-range_count-gt-MOST_RANGES.false c.if-contacts-contact_count.false c.if-ranges-range_count.false
-    c.are_good_contacts.ensures (not-false _ c.if-not-are_good_contacts.false)
-    c.are_good_ranges.ensures (not-false _ c.if-not-are_good_ranges.false)
+    c.are_good_contacts.ensures c.if-not-are_good_contacts.false
+    c.are_good_ranges.ensures c.if-not-are_good_ranges.false
     c.are_rows_apart.ensures

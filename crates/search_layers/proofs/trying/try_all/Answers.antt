@@ -1,15 +1,10 @@
 -- `search_layers::trying::try_all` meets its contract. The loop's invariant: the contacts from the nodes up to `tried` are tried, and if the words of none of them differed
 -- the rows are as they were.
 -- Assumes nothing.
-use mathlib.Core.Bool.{true}
-use mathlib.Core.Path.{◌≡◌, refl, sym, ◌∙◌, subst}
-use Prim.Native.Nat.{◌-◌, ◌≤◌, ◌<◌}
+use mathlib.Core.Path.{refl, sym, ◌∙◌, subst}
 use native.Mathlib.Omega.{arith}
 use lib.Dec.{T}
 use Rattle.units.specs.Limits.{most_nodes}
-use Rattle.service.specs.Tables.{served}
-use Rattle.search_layers.specs.Bridge.{network_of}
-use Rattle.search_layers.specs.Words.{Tried}
 use Rattle.search_layers.proofs.FillCode.{older_kept}
 use Rattle.search_layers.proofs.TriedCode.{tried_none, tried_more, tried_nodes, still_lower}
 use Rattle.search_layers.proofs.trying.try_all.Goals as goal
@@ -21,10 +16,11 @@ pub try_changed-changed-requires : goal.try_changed-changed-requires
 unfolding most_nodes
 try_changed-changed-requires c =
     let so_far = c.loop-tried.invariant.1 in
-    let pre = c.requires in (
-      (pre.0, pre.1, so_far.timed, omega (arith, so_far.long, pre.3), pre.6, record { least = omega arith; most = omega (arith, c.loop-tried-test.true) }),
-      (older_kept _ _ _ _ _ so_far.long so_far.kept pre.5, still_lower _ _ _ _ pre.4 so_far),
-    )
+    let pre = c.requires in
+    record {
+      service = (pre.0, pre.1, so_far.timed, omega (arith, so_far.long, pre.3), pre.6, record { least = omega arith; most = omega (arith, c.loop-tried-test.true) });
+      older = (older_kept _ _ _ _ _ so_far.long so_far.kept pre.5, still_lower _ _ _ _ pre.4 so_far);
+    }
 
 pub loop-tried-smaller-then-changed : goal.loop-tried-smaller-then-changed
 loop-tried-smaller-then-changed c = omega (arith, c.loop-tried-test.true)

@@ -1,13 +1,8 @@
 -- `search_layers::trying::try_from` meets its contract. The loop's invariant: the contacts from the node before row i are tried.
 -- Assumes nothing.
-use mathlib.Core.Path.{◌≡◌}
-use Prim.Native.Nat.{ℕ, ◌-◌, ◌<◌}
 use native.Mathlib.Omega.{arith}
-use borrow.Author.Rules.{rules}
-use lib.ListN.{get_or}
-use Rattle.units.specs.Limits.{most_nodes}
 use Rattle.timing.proofs.ChainCode.{named_in_plan}
-use Rattle.search_layers.proofs.ListedCode.{Seen, seen_first, seen_ready, seen_next, next_later, seen_all}
+use Rattle.search_layers.proofs.ListedCode.{seen_first, seen_ready, seen_next, next_later, seen_all}
 use Rattle.search_layers.proofs.NetworkLaws.{node_below}
 use Rattle.search_layers.proofs.trying.try_from.Goals as goal
 
@@ -20,7 +15,7 @@ loop-i-init c = let pre = c.requires in λ v node e. seen_first _ _ _ _ _ _ _ _ 
 pub try_contact-requires : goal.try_contact-requires
 try_contact-requires c =
     let pre = c.requires in
-    let seen = c.loop-i.invariant _ (node_below _ pre.5) c.first_from_lem.ensures in
+    let seen = c.loop-i.invariant _ (node_below _ pre.5) c.first_from-i.ensures in
     let below = c.loop-i-test.true in (
       pre.0,
       pre.1,
@@ -48,8 +43,8 @@ loop-i-preserved c =
 
 pub shape_of-words : goal.shape_of-words
 shape_of-words c =
-    (c.loop-i.invariant _ (node_below _ c.requires.5) c.first_from_lem.ensures).tried.long
+    (c.loop-i.invariant _ (node_below _ c.requires.5) c.first_from-i.ensures).tried.long
 
 pub returns : goal.returns
 returns c =
-    seen_all _ _ _ _ _ _ _ _ _ _ c.loop-i-test.false (c.loop-i.invariant _ (node_below _ c.requires.5) c.first_from_lem.ensures)
+    seen_all _ _ _ _ _ _ _ _ _ _ c.loop-i-test.false (c.loop-i.invariant _ (node_below _ c.requires.5) c.first_from-i.ensures)

@@ -1,6 +1,5 @@
 -- `text_lines::line::field_at` meets its contract.
 -- Assumes nothing.
-use borrow.Author.Rules.{rules}
 use Rattle.text_lines.proofs.LineCode.{field_end, field_none, field_number, field_bad}
 use Rattle.text_lines.proofs.line.field_at.Goals as goal
 
@@ -13,7 +12,7 @@ slice_bounds-digits-end c = field_end _ _ c.if-line-at.false _ c.find-end.ensure
 pub returns-then-is_number : goal.returns-then-is_number
 returns-then-is_number c =
     field_number _ _ c.if-line-at.false _ _ _ c.find-end.ensures c.is_number.ensures c.if-is_number.true
-    c.value_of_lem.ensures
+    c.value_of.ensures
 
 pub returns-else-is_number : goal.returns-else-is_number
 returns-else-is_number c =

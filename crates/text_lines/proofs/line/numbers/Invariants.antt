@@ -1,16 +1,10 @@
 -- `text_lines::line::numbers` meets its contract. The loop's invariant: the first k numbers are in the row, and what is asked of the line is asked of its fields from place `at` on.
 -- Assumes nothing.
-use mathlib.Core.Bool.{false≢true}
 use mathlib.Core.List.{◌++◌, map}
-use mathlib.Core.Path.{◌≡◌, refl, sym, ◌∙◌}
-use Prim.Native.Nat.{◌+◌, ◌-◌, ◌≤◌, ◌<◌}
-use native.Mathlib.Nat.{sub-zero}
-use native.Mathlib.Omega.{arith}
-use borrow.Author.Tests.{eqb-true}
-use borrow.Author.Rules.{rules}
-use lib.ListN.{length, take, length-set}
+use mathlib.Core.Path.{◌≡◌}
+use Prim.Native.Nat.{◌-◌, ◌≤◌}
+use lib.ListN.{length, take}
 use Rattle.text_lines.specs.Model.{capped_value, fields_from, good_fields}
-use Rattle.text_lines.proofs.LineCode.{numbers_goes, numbers_stored, next_inside, numbers_stops, numbers_ends, numbers_all}
 use Rattle.text_lines.proofs.line.numbers.Given as goal
 
 abbrev pub invariant-loop-k : goal.invariant-loop-k

@@ -1,11 +1,9 @@
 -- `text_lines::marks::find` meets its contract. The loop's invariant: the next mark from the start on is the next mark from place i on.
 -- Assumes nothing.
-use mathlib.Core.Path.{◌≡◌, refl, sym, ◌∙◌}
+use mathlib.Core.Path.{◌≡◌}
 use Prim.Native.Nat.{◌+◌, ◌-◌}
-use native.Mathlib.Omega.{arith}
 use lib.ListN.{length, drop}
 use Rattle.text.specs.Model.{up_to}
-use Rattle.text_lines.proofs.BytesCode.{find_goes, find_stops, find_ends}
 use Rattle.text_lines.proofs.marks.find.Given as goal
 
 abbrev pub invariant-loop-i : goal.invariant-loop-i

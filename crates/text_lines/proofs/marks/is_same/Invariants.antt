@@ -1,11 +1,9 @@
 -- `text_lines::marks::is_same` meets its contract. The loop's invariant: the two are the same where they are the same from place i on.
 -- Assumes nothing.
-use mathlib.Core.Path.{◌≡◌, refl, sym, ◌∙◌}
+use mathlib.Core.Path.{◌≡◌}
 use Prim.Native.Nat.{◌-◌}
-use native.Mathlib.Omega.{arith}
 use lib.ListN.{length, drop}
 use Rattle.text.specs.Model.{same}
-use Rattle.text_lines.proofs.BytesCode.{same_unlike, same_goes, same_stops, same_ends}
 use Rattle.text_lines.proofs.marks.is_same.Given as goal
 
 abbrev pub invariant-loop-i : goal.invariant-loop-i

@@ -1,6 +1,5 @@
 -- `text_lines::number::and_digit` meets its contract.
 -- Assumes nothing.
-use borrow.Author.Rules.{rules}
 use Rattle.text_lines.proofs.BytesCode.{and_over, and_past, and_fits}
 use Rattle.text_lines.proofs.number.and_digit.Goals as goal
 

@@ -1,14 +1,10 @@
 -- `text_lines::number::are_digits` meets its contract. The loop's invariant: every byte is a digit where every byte from place i on is.
 -- Assumes nothing.
-use mathlib.Core.Path.{◌≡◌, refl, sym, ◌∙◌}
+use mathlib.Core.Path.{◌≡◌}
 use Prim.Native.Nat.{◌-◌}
-use native.Mathlib.Omega.{arith}
-use borrow.Author.Tests.{not-true, not-false}
-use borrow.Author.Rules.{rules}
 use lib.ListN.{length, drop}
 use Rattle.plan.specs.Model.{each}
 use Rattle.text.specs.Model.{is_digit}
-use Rattle.text_lines.proofs.BytesCode.{digits_goes, digits_stops, digits_ends}
 use Rattle.text_lines.proofs.number.are_digits.Given as goal
 
 abbrev pub invariant-loop-i : goal.invariant-loop-i

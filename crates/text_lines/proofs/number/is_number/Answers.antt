@@ -1,6 +1,5 @@
 -- `text_lines::number::is_number` meets its contract.
 -- Assumes nothing.
-use borrow.Author.Rules.{rules}
 use Rattle.text_lines.proofs.LineCode.{number_blank, number_by}
 use Rattle.text_lines.proofs.number.is_number.Goals as goal
 

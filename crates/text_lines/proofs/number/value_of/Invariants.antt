@@ -1,13 +1,10 @@
 -- `text_lines::number::value_of` meets its contract. The loop's invariant: the value is that of the digits from place i on, read on from v.
 -- Assumes nothing.
-use mathlib.Core.Path.{◌≡◌, sym, ap, ◌∙◌}
-use Prim.Native.Nat.{ℕ, ◌+◌, ◌-◌}
-use native.Mathlib.Omega.{arith}
-use borrow.Author.Rules.{rules}
+use mathlib.Core.Path.{◌≡◌}
+use Prim.Native.Nat.{◌-◌}
 use lib.ListN.{length, drop}
 use Rattle.text.specs.Digits.{value}
 use Rattle.text.specs.Model.{capped, capped_from}
-use Rattle.text_lines.proofs.BytesCode.{value_all, value_goes, value_ends}
 use Rattle.text_lines.proofs.number.value_of.Given as goal
 
 abbrev pub invariant-loop-i : goal.invariant-loop-i

@@ -1,7 +1,5 @@
 -- `text_read::reader::read` meets its contract.
 -- Assumes nothing.
-use borrow.Author.Tests.{not-true, not-false}
-use borrow.Author.Rules.{rules}
 use Rattle.units.specs.Limits.{most_contacts, most_ranges, most_text}
 use Rattle.text.specs.Calls.{few_contacts, few_ranges, refused}
 use Rattle.text.specs.Reading.{too_long}
@@ -24,15 +22,15 @@ pub returns-then-not-has_header : goal.returns-then-not-has_header
 unfolding most_contacts most_ranges most_text
 returns-then-not-has_header c =
     refused _ c.if-contacts.false c.if-ranges.false
-    (headless_read _ c.if-text-gt-MOST_TEXT.false _ c.has_header.ensures (not-true _ c.if-not-has_header.true))
+    (headless_read _ c.if-text-gt-MOST_TEXT.false _ c.has_header.ensures c.if-not-has_header.true)
 
 pub read_rows-requires : goal.read_rows-requires
 unfolding most_contacts most_ranges
 read_rows-requires c =
-    (c.if-contacts.false, c.if-ranges.false, header_there _ _ c.has_header.ensures (not-false _ c.if-not-has_header.false))
+    (c.if-contacts.false, c.if-ranges.false, header_there _ _ c.has_header.ensures c.if-not-has_header.false)
 
 pub returns : goal.returns
 unfolding most_contacts most_ranges most_text
 returns c =
-    body_read _ c.if-text-gt-MOST_TEXT.false _ c.has_header.ensures (not-false _ c.if-not-has_header.false) _ _ _ _ _ c.if-contacts.false
+    body_read _ c.if-text-gt-MOST_TEXT.false _ c.has_header.ensures c.if-not-has_header.false _ _ _ _ _ c.if-contacts.false
     c.if-ranges.false c.read_rows.ensures

@@ -1,9 +1,7 @@
 -- `text_rows::judge::take_contact` meets its contract.
 -- Assumes nothing.
-use mathlib.Core.Path.{refl}
 use Prim.Native.Nat.{◌+◌, ◌*◌, ◌≤◌}
 use native.Mathlib.Omega.{arith}
-use borrow.Author.Tests.{not-true, not-false}
 use lib.ListN.{length}
 use Rattle.units.specs.Limits.{most_contacts, most_ranges}
 use Rattle.text.specs.Reading.{refusal_of, too_many, bad_value, overlapping}
@@ -25,7 +23,7 @@ pub returns-then-not-is_good_contact : goal.returns-then-not-is_good_contact
 unfolding most_contacts refusal_of
 returns-then-not-is_good_contact c =
     λ ranges. refused _ (contact_refused _ _ ranges _ _ _ c.if-n-gt0.false bad_value
-    (row_bad _ _ _ _ _ _ c.if-m-ge-MOST_CONTACTS.false _ c.is_good_contact.ensures (not-true _ c.if-not-is_good_contact.true)))
+    (row_bad _ _ _ _ _ _ c.if-m-ge-MOST_CONTACTS.false _ c.is_good_contact.ensures c.if-not-is_good_contact.true))
 
 pub contact_span-requires : goal.contact_span-requires
 contact_span-requires c = tt
@@ -38,8 +36,8 @@ pub returns-then-not-is_clear : goal.returns-then-not-is_clear
 unfolding most_contacts refusal_of
 returns-then-not-is_clear c =
     λ ranges. refused _ (contact_refused _ _ ranges _ _ _ c.if-n-gt0.false overlapping
-    (row_meets _ _ _ _ _ _ c.if-m-ge-MOST_CONTACTS.false _ c.is_good_contact.ensures (not-false _ c.if-not-is_good_contact.false) _
-    c.contact_span.ensures _ c.is_clear.ensures (not-true _ c.if-not-is_clear.true)))
+    (row_meets _ _ _ _ _ _ c.if-m-ge-MOST_CONTACTS.false _ c.is_good_contact.ensures c.if-not-is_good_contact.false _
+    c.contact_span.ensures _ c.is_clear.ensures c.if-not-is_clear.true))
 
 pub put_contact-requires : goal.put_contact-requires
 unfolding most_contacts
@@ -50,9 +48,6 @@ pub overflow_add-result : goal.overflow_add-result
 unfolding most_contacts
 overflow_add-result c = omega (arith, c.if-m-ge-MOST_CONTACTS.false)
 
-pub shape_of-contacts : goal.shape_of-contacts
-shape_of-contacts c = c.put_contact.auto.0
-
 pub returns : goal.returns
 unfolding most_contacts most_ranges
 returns c =
@@ -60,6 +55,6 @@ returns c =
     let room : c.args.m * 5 + 5 ≤ length c.args.contacts.now = omega (arith, c.requires.2, c.if-m-ge-MOST_CONTACTS.false) in
     λ ranges. rows _ _ more c.requires.1
     (contact_taken _ _ ranges _ _ _ c.if-n-gt0.false
-    (row_fits _ _ _ _ _ _ c.if-m-ge-MOST_CONTACTS.false _ c.is_good_contact.ensures (not-false _ c.if-not-is_good_contact.false) _
-    c.contact_span.ensures _ c.is_clear.ensures (not-false _ c.if-not-is_clear.false))
+    (row_fits _ _ _ _ _ _ c.if-m-ge-MOST_CONTACTS.false _ c.is_good_contact.ensures c.if-not-is_good_contact.false _
+    c.contact_span.ensures _ c.is_clear.ensures c.if-not-is_clear.false)
     room _ c.put_contact.ensures)

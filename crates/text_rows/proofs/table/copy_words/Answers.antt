@@ -2,10 +2,9 @@
 -- Assumes nothing.
 use mathlib.Core.List.{List, ◌++◌}
 use mathlib.Core.Path.{◌≡◌, refl, ap, ◌∙◌}
-use Prim.Native.Nat.{ℕ, ◌+◌, ◌-◌, ◌≤◌}
+use Prim.Native.Nat.{ℕ}
 use native.Mathlib.Omega.{arith}
-use borrow.Author.Rules.{rules}
-use lib.ListN.{length, get_or, take, drop, set, length-set}
+use lib.ListN.{get_or, take, drop, set, length-set}
 use Rattle.text_rows.proofs.TablesCode.{copied_more}
 use Rattle.text_rows.proofs.table.copy_words.Goals as goal
 

@@ -1,12 +1,9 @@
 -- `text_rows::table::copy_words` meets its contract. The loop's invariant: the first i words are copied, and the others are as they were.
 -- Assumes nothing.
-use mathlib.Core.List.{List, ◌++◌}
-use mathlib.Core.Path.{◌≡◌, refl, ap, ◌∙◌}
-use Prim.Native.Nat.{ℕ, ◌+◌, ◌-◌, ◌≤◌}
-use native.Mathlib.Omega.{arith}
-use borrow.Author.Rules.{rules}
-use lib.ListN.{length, get_or, take, drop, set, length-set}
-use Rattle.text_rows.proofs.TablesCode.{copied_more}
+use mathlib.Core.List.{◌++◌}
+use mathlib.Core.Path.{◌≡◌}
+use Prim.Native.Nat.{◌-◌, ◌≤◌}
+use lib.ListN.{length, take, drop}
 use Rattle.text_rows.proofs.table.copy_words.Given as goal
 
 abbrev pub invariant-loop-i : goal.invariant-loop-i

@@ -1,7 +1,6 @@
 -- `text_rows::table::put_row` meets its contract.
 -- Assumes nothing.
 use native.Mathlib.Omega.{arith}
-use borrow.Author.Rules.{rules}
 use lib.ListN.{length-set}
 use Rattle.text_rows.proofs.table.put_row.Goals as goal
 

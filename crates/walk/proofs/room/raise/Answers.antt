@@ -22,8 +22,8 @@ is_carried-requires c = let pre = c.requires in (pre.0, c.if-more-gt-MOST_SIZE.f
 
 pub returns-then-is_carried : goal.returns-then-is_carried
 unfolding most_size
-returns-then-is_carried c = rw (le-leb _ _ c.if-more-gt-MOST_SIZE.false, sym c.is_Carried.ensures ∙ c.if-is_carried.true)
+returns-then-is_carried c = rw (le-leb _ _ c.if-more-gt-MOST_SIZE.false, sym c.is_carried.ensures ∙ c.if-is_carried.true)
 
 pub returns-else-is_carried : goal.returns-else-is_carried
 unfolding most_size
-returns-else-is_carried c = rw (le-leb _ _ c.if-more-gt-MOST_SIZE.false, sym c.is_Carried.ensures ∙ c.if-is_carried.false)
+returns-else-is_carried c = rw (le-leb _ _ c.if-more-gt-MOST_SIZE.false, sym c.is_carried.ensures ∙ c.if-is_carried.false)
