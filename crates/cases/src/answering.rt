@@ -5,6 +5,7 @@ use crate::tables::least;
 use crate::words::{LIGHT, MILLION, PLACES, ROUTE, VALID, WALK};
 use crate::{chains, show};
 use plan_valid::is_plan;
+use std::io;
 use units::{Ask, ContactNo, MOST_CONTACTS, Millis, NodeNo};
 use walk::walk;
 
@@ -53,21 +54,29 @@ fn contact_no(n: u64) -> ContactNo
     ContactNo(n)
 }
 
-fn light(contacts: &[u64], m: usize, ranges: &[u64], n: usize, no: ContactNo)
+fn light(
+    rt: &impl Print,
+    contacts: &[u64],
+    m: usize,
+    ranges: &[u64],
+    n: usize,
+    no: ContactNo,
+) -> io::Result<()>
     requires { (1 ≤ no.0) × (no.0 ≤ 512) }
 {
     if is_plan(contacts, m, ranges, n) {
         let mut lights = [0u32; MOST_CONTACTS];
         let mut lefts = [0u64; MOST_CONTACTS];
         service::serve(contacts, m, ranges, n, &mut lights, &mut lefts);
-        show::light(service::light_numbered(&lights, no));
+        show::light(rt, service::light_numbered(&lights, no))
     } else {
-        show::verdict(false);
+        show::verdict(rt, false)
     }
 }
 
 // The chain is what stands behind the ask.
 fn walked(
+    rt: &impl Print,
     contacts: &[u64],
     m: usize,
     ranges: &[u64],
@@ -75,22 +84,44 @@ fn walked(
     ask: Ask,
     words: &[u64],
     count: usize,
-)
+) -> io::Result<()>
     requires { count ≤ length words.now }
 {
     let from = least(ASK, count);
-    show::walked(walk(contacts, m, ranges, n, ask, &words[from..count]));
+    show::walked(
+        rt,
+        walk(contacts, m, ranges, n, ask, &words[from..count]),
+    )
 }
 
 // So many places are lent.
-fn routed(contacts: &[u64], m: usize, ranges: &[u64], n: usize, ask: Ask, lent: u64, shown: bool) {
+fn routed(
+    rt: &impl Print,
+    contacts: &[u64],
+    m: usize,
+    ranges: &[u64],
+    n: usize,
+    ask: Ask,
+    lent: u64,
+    shown: bool,
+) -> io::Result<()> {
     let places = least(lent as usize, MOST_LENT);
     let mut chain = [0u64; MOST_LENT];
-    chains::routed(contacts, m, ranges, n, ask, &mut chain[0..places], shown);
+    chains::routed(
+        rt,
+        contacts,
+        m,
+        ranges,
+        n,
+        ask,
+        &mut chain[0..places],
+        shown,
+    )
 }
 
 // The answer of a case, and the line's end.
 pub fn answer(
+    rt: &impl Print,
     word: u64,
     contacts: &[u64],
     m: usize,
@@ -98,15 +129,15 @@ pub fn answer(
     n: usize,
     words: &[u64; MOST],
     count: usize,
-)
+) -> io::Result<()>
     requires { count ≤ 70 }
 {
     let ask = ask_of(words);
     match word {
-        VALID => show::verdict(is_plan(contacts, m, ranges, n)),
-        LIGHT => light(contacts, m, ranges, n, contact_no(words[0])),
-        WALK => walked(contacts, m, ranges, n, ask, words, count),
-        MILLION => chains::million(contacts, m, ranges, n, ask),
-        _ => routed(contacts, m, ranges, n, ask, words[ASK], word == PLACES),
+        VALID => show::verdict(rt, is_plan(contacts, m, ranges, n)),
+        LIGHT => light(rt, contacts, m, ranges, n, contact_no(words[0])),
+        WALK => walked(rt, contacts, m, ranges, n, ask, words, count),
+        MILLION => chains::million(rt, contacts, m, ranges, n, ask),
+        _ => routed(rt, contacts, m, ranges, n, ask, words[ASK], word == PLACES),
     }
 }

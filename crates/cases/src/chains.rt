@@ -1,6 +1,7 @@
 // Chains that are lent: their places are filled before the call.
 use crate::show;
 use search::route;
+use std::io;
 use units::Ask;
 use walk::walk;
 
@@ -25,6 +26,7 @@ fn fill(chain: &mut [u64], to_and_fro: bool) {
 
 // The best chain in the places lent, each of which has a number that no contact has; they are shown or not.
 pub fn routed(
+    rt: &impl Print,
     contacts: &[u64],
     m: usize,
     ranges: &[u64],
@@ -32,29 +34,37 @@ pub fn routed(
     ask: Ask,
     chain: &mut [u64],
     shown: bool,
-) {
+) -> io::Result<()> {
     fill(chain, false);
     let answer = route(contacts, m, ranges, n, ask, chain);
-    show::routed(answer, chain, shown);
+    show::routed(rt, answer, chain, shown)
 }
 
 // An even number of contacts to and fro leads back to the source, so the last one goes on.
 fn million_lent(
+    rt: &impl Print,
     contacts: &[u64],
     m: usize,
     ranges: &[u64],
     n: usize,
     ask: Ask,
     chain: &mut [u64; MILLION],
-) {
+) -> io::Result<()> {
     fill(chain, true);
     chain[MILLION - 1] = 3;
-    show::walked(walk(contacts, m, ranges, n, ask, chain));
+    show::walked(rt, walk(contacts, m, ranges, n, ask, chain))
 }
 
 // The figures of a chain of a million contacts: the stack of `walk` does not grow with it. The array nearly
 // fills the usual stack of 8 MB. It is lent whole, so that nothing computes its length.
-pub fn million(contacts: &[u64], m: usize, ranges: &[u64], n: usize, ask: Ask) {
+pub fn million(
+    rt: &impl Print,
+    contacts: &[u64],
+    m: usize,
+    ranges: &[u64],
+    n: usize,
+    ask: Ask,
+) -> io::Result<()> {
     let mut chain = [0u64; MILLION];
-    million_lent(contacts, m, ranges, n, ask, &mut chain);
+    million_lent(rt, contacts, m, ranges, n, ask, &mut chain)
 }

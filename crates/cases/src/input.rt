@@ -1,9 +1,10 @@
 // The input, line by line.
-ghost use Rattle.std.specs.Prelude.{◌≡◌, ◌≤◌, length};
+ghost use Rattle.std.specs.Prelude.{◌≡◌, ◌≤◌, length, IfOk};
 
 use crate::step::step;
 use crate::tables::NONE;
-use libc::STDIN_FILENO;
+use std::io;
+use std::io::Read;
 
 const LINE_FEED: u8 = 10;
 // The most lines that are read.
@@ -22,40 +23,46 @@ fn is_end(got: usize, byte: u8) -> bool {
 }
 
 // The next line put at the start of `line`.
-fn next_line(line: &mut [u8]) -> Next
-    ensures { result.length ≤ length line.new }
+fn next_line(from: &mut impl Read, line: &mut [u8]) -> io::Result<Next>
+    ensures { IfOk result (λ next. next.length ≤ length line.new) }
 {
     let mut n: usize = 0;
     while n < line.len() {
         let after = n + 1;
-        let got = io::read_full(STDIN_FILENO, &mut line[n..after]);
+        let got = from.read(&mut line[n..after])?;
         if is_end(got, line[n]) {
-            return Next {
+            return Ok(Next {
                 length: n,
                 is_there: (0 < got) | (0 < n),
-            };
+            });
         }
         n = after;
     }
-    Next {
+    Ok(Next {
         length: n,
         is_there: true,
-    }
+    })
 }
 
 // Every line, each read into `line`: one that is longer is taken in parts.
-pub fn all(line: &mut [u8], tables: &mut [u64])
+pub fn all(
+    rt: &(impl Print + Input),
+    line: &mut [u8],
+    tables: &mut [u64],
+) -> io::Result<()>
     requires { length tables.old ≡ 5130 }
 {
+    let mut from = rt.reader();
     let mut sizes = NONE;
     let mut passed: usize = 0;
     while passed < MOST_LINES {
-        let next = next_line(line);
+        let next = next_line(&mut from, line)?;
         if !next.is_there {
-            return;
+            return Ok(());
         }
         let length = next.length;
-        sizes = step(&line[0..length], tables, sizes);
+        sizes = step(rt, &line[0..length], tables, sizes)?;
         passed += 1;
     }
+    Ok(())
 }

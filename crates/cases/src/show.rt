@@ -1,95 +1,91 @@
 // How an answer is printed, and its line ended.
-use libc::STDOUT_FILENO;
 use plan::Light;
 use search::Routed;
+use std::io;
 use units::{Refusal, number, place};
 use walk::{Figures, Walked};
 
 // A line that is not understood.
-pub fn bad() {
-    io::write_all(STDOUT_FILENO, b"\tbad line\n");
+pub fn bad(rt: &impl Print) -> io::Result<()> {
+    rt.write_all(b"\tbad line\n")
 }
 
 // A tab and a number.
-fn field(n: u64) {
-    io::write_all(STDOUT_FILENO, b"\t");
-    io::print_decimal(STDOUT_FILENO, n);
+fn field(rt: &impl Print, n: u64) -> io::Result<()> {
+    print!(rt; "\t{n}")
 }
 
 // The first `count` numbers.
-fn fields(numbers: &[u64], count: usize) {
+fn fields(rt: &impl Print, numbers: &[u64], count: usize) -> io::Result<()> {
     let mut i = 0;
     while i < numbers.len() {
         if i == count {
-            return;
+            return Ok(());
         }
-        field(numbers[i]);
+        field(rt, numbers[i])?;
         i += 1;
     }
+    Ok(())
 }
 
-fn figures(f: Figures) {
-    field(f.delivery.0);
-    field(f.opens.0);
-    field(f.last_call.0);
-    field(f.room);
+fn figures(rt: &impl Print, f: Figures) -> io::Result<()> {
+    field(rt, f.delivery.0)?;
+    field(rt, f.opens.0)?;
+    field(rt, f.last_call.0)?;
+    field(rt, f.room)
 }
 
-fn refused(why: Refusal) {
-    io::write_all(STDOUT_FILENO, b"\trefused");
-    field(number(why));
-    field(place(why));
+fn refused(rt: &impl Print, why: Refusal) -> io::Result<()> {
+    rt.write_all(b"\trefused")?;
+    field(rt, number(why))?;
+    field(rt, place(why))
 }
 
 // What the test of a plan said.
-pub fn verdict(is_plan: bool) {
+pub fn verdict(rt: &impl Print, is_plan: bool) -> io::Result<()> {
     if is_plan {
-        io::write_all(STDOUT_FILENO, b"\tplan\n");
+        rt.write_all(b"\tplan\n")
     } else {
-        io::write_all(STDOUT_FILENO, b"\tno plan\n");
+        rt.write_all(b"\tno plan\n")
     }
 }
 
 // A light time, or that there is none.
-pub fn light(answer: Light) {
+pub fn light(rt: &impl Print, answer: Light) -> io::Result<()> {
     match answer {
-        Light::Of(light) => field(light.0),
-        Light::Unranged => {
-            io::write_all(STDOUT_FILENO, b"\tunranged");
-        }
+        Light::Of(light) => field(rt, light.0)?,
+        Light::Unranged => rt.write_all(b"\tunranged")?,
     }
-    io::write_all(STDOUT_FILENO, b"\n");
+    rt.write_all(b"\n")
 }
 
 // The four figures, or the number and the place.
-pub fn walked(answer: Walked) {
+pub fn walked(rt: &impl Print, answer: Walked) -> io::Result<()> {
     match answer {
-        Walked::Carried(f) => figures(f),
-        Walked::Refused(why) => refused(why),
+        Walked::Carried(f) => figures(rt, f)?,
+        Walked::Refused(why) => refused(rt, why)?,
     }
-    io::write_all(STDOUT_FILENO, b"\n");
+    rt.write_all(b"\n")
 }
 
 // A line with every place of a lent chain.
-fn places(chain: &[u64]) {
-    io::write_all(STDOUT_FILENO, b"places");
-    fields(chain, chain.len());
-    io::write_all(STDOUT_FILENO, b"\n");
+fn places(rt: &impl Print, chain: &[u64]) -> io::Result<()> {
+    rt.write_all(b"places")?;
+    fields(rt, chain, chain.len())?;
+    rt.write_all(b"\n")
 }
 
 // The figures, the count and the chain, or the number and the place; and the places, where they are shown.
-pub fn routed(answer: Routed, chain: &[u64], shown: bool) {
+pub fn routed(rt: &impl Print, answer: Routed, chain: &[u64], shown: bool) -> io::Result<()> {
     match answer {
         Routed::Best(f, count) => {
-            io::write_all(STDOUT_FILENO, b"\troute");
-            figures(f);
-            field(count as u64);
-            fields(chain, count);
+            rt.write_all(b"\troute")?;
+            figures(rt, f)?;
+            field(rt, count as u64)?;
+            fields(rt, chain, count)?;
         }
-        Routed::Refused(why) => refused(why),
+        Routed::Refused(why) => refused(rt, why)?,
     }
-    io::write_all(STDOUT_FILENO, b"\n");
-    if shown {
-        places(chain);
-    }
+    rt.write_all(b"\n")?;
+    if shown { places(rt, chain) } else { Ok(()) }
 }

@@ -1,31 +1,39 @@
 // What a line does: it changes the tables, or is a case over them.
-ghost use Rattle.std.specs.Prelude.{◌≡◌, ◌≤◌, length};
+ghost use Rattle.std.specs.Prelude.{◌≡◌, ◌≤◌, length, IfOk};
 
 use crate::answering::{MOST, answer, is_case};
 use crate::show::bad;
 use crate::tables::{HALF, NONE, Sizes, counted, least, put};
 use crate::words::{CONTACT, COUNTS, PLAN, RANGE, TEXT, after, field, fields};
-use libc::STDOUT_FILENO;
 use plan::WORDS;
+use std::io;
 use text_lines::numbers;
 
 // Prints the first two fields, of which the one ends there: where the other does.
-fn head(line: &[u8], end: usize) -> usize
-    ensures { result ≤ length line.now }
+fn head(rt: &impl Print, line: &[u8], end: usize) -> io::Result<usize>
+    ensures { IfOk result (λ n. n ≤ length line.now) }
 {
     let from = after(end, line.len());
     let named = field(line, from).end;
-    io::write_all(STDOUT_FILENO, &line[0..named]);
-    named
+    rt.write_all(&line[0..named])?;
+    Ok(named)
 }
 
 // The answer over what the tables have.
-fn answer_over(word: u64, tables: &[u64], sizes: Sizes, words: &[u64; MOST], count: usize)
+fn answer_over(
+    rt: &impl Print,
+    word: u64,
+    tables: &[u64],
+    sizes: Sizes,
+    words: &[u64; MOST],
+    count: usize,
+) -> io::Result<()>
     requires { (length tables.now ≡ 5130) × (count ≤ 70) }
 {
     let m = least(sizes.contact_words, HALF);
     let n = HALF + least(sizes.range_words, HALF);
     answer(
+        rt,
         word,
         &tables[0..m],
         sizes.contact_rows,
@@ -33,57 +41,69 @@ fn answer_over(word: u64, tables: &[u64], sizes: Sizes, words: &[u64; MOST], cou
         sizes.range_rows,
         words,
         count,
-    );
+    )
 }
 
 // A case: its first two fields, and the answer. Where there are more numbers than any case has, they are not
 // read.
-fn case(line: &[u8], end: usize, word: u64, tables: &[u64], sizes: Sizes)
+fn case(
+    rt: &impl Print,
+    line: &[u8],
+    end: usize,
+    word: u64,
+    tables: &[u64],
+    sizes: Sizes,
+) -> io::Result<()>
     requires { length tables.now ≡ 5130 }
 {
-    let named = head(line, end);
+    let named = head(rt, line, end)?;
     let count = least(fields(line, named), MOST);
     let mut words = [0u64; MOST];
     let are_numbers = numbers(line, named, &mut words[0..count]);
     if are_numbers & is_case(word, count, &words, sizes.contact_rows) {
-        answer_over(word, tables, sizes, &words, count);
+        answer_over(rt, word, tables, sizes, &words, count)
     } else {
-        bad();
+        bad(rt)
     }
 }
 
 // One line: the sizes of the tables after it.
-pub fn step(line: &[u8], tables: &mut [u64], sizes: Sizes) -> Sizes
+pub fn step(
+    rt: &impl Print,
+    line: &[u8],
+    tables: &mut [u64],
+    sizes: Sizes,
+) -> io::Result<Sizes>
     requires { length tables.old ≡ 5130 }
 {
     let first = field(line, 0);
     let end = first.end;
     let word = first.number;
     match word {
-        TEXT => sizes,
-        PLAN => NONE,
+        TEXT => Ok(sizes),
+        PLAN => Ok(NONE),
         CONTACT => {
-            let words = put(line, end, tables, 0, sizes.contact_words);
-            Sizes {
+            let words = put(rt, line, end, tables, 0, sizes.contact_words)?;
+            Ok(Sizes {
                 contact_words: words,
                 contact_rows: words / WORDS,
                 range_words: sizes.range_words,
                 range_rows: sizes.range_rows,
-            }
+            })
         }
         RANGE => {
-            let words = put(line, end, tables, HALF, sizes.range_words);
-            Sizes {
+            let words = put(rt, line, end, tables, HALF, sizes.range_words)?;
+            Ok(Sizes {
                 contact_words: sizes.contact_words,
                 contact_rows: sizes.contact_rows,
                 range_words: words,
                 range_rows: words / WORDS,
-            }
+            })
         }
-        COUNTS => counted(line, end, sizes),
+        COUNTS => counted(rt, line, end, sizes),
         _ => {
-            case(line, end, word, tables, sizes);
-            sizes
+            case(rt, line, end, word, tables, sizes)?;
+            Ok(sizes)
         }
     }
 }

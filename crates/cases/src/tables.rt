@@ -3,6 +3,7 @@ ghost use Rattle.std.specs.Prelude.{◌≡◌, ◌≤◌, length};
 
 use crate::show::bad;
 use crate::words::fields;
+use std::io;
 use text_lines::numbers;
 
 // The words of a table: a row more than a plan can have.
@@ -33,7 +34,14 @@ pub fn least(a: usize, b: usize) -> usize
 
 // The numbers behind the tab at `from`, put behind the words of the table that starts at `base`: how many
 // words it has then. Where there are more than it has room for, they are not read.
-pub fn put(line: &[u8], from: usize, tables: &mut [u64], base: usize, words: usize) -> usize
+pub fn put(
+    rt: &impl Print,
+    line: &[u8],
+    from: usize,
+    tables: &mut [u64],
+    base: usize,
+    words: usize,
+) -> io::Result<usize>
     requires { (from ≤ length line.now) × (length tables.old ≡ 5130) × (base ≤ 2565) }
 {
     let before = least(words, HALF);
@@ -41,27 +49,32 @@ pub fn put(line: &[u8], from: usize, tables: &mut [u64], base: usize, words: usi
     let start = base + before;
     let end = start + more;
     if numbers(line, from, &mut tables[start..end]) {
-        before + more
+        Ok(before + more)
     } else {
-        bad();
-        before
+        bad(rt)?;
+        Ok(before)
     }
 }
 
 // The sizes with the two counts behind the tab at `from`.
-pub fn counted(line: &[u8], from: usize, sizes: Sizes) -> Sizes
+pub fn counted(
+    rt: &impl Print,
+    line: &[u8],
+    from: usize,
+    sizes: Sizes,
+) -> io::Result<Sizes>
     requires { from ≤ length line.now }
 {
     let mut counts = [0u64; 2];
     if numbers(line, from, &mut counts) {
-        Sizes {
+        Ok(Sizes {
             contact_words: sizes.contact_words,
             contact_rows: counts[0] as usize,
             range_words: sizes.range_words,
             range_rows: counts[1] as usize,
-        }
+        })
     } else {
-        bad();
-        sizes
+        bad(rt)?;
+        Ok(sizes)
     }
 }

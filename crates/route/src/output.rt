@@ -1,5 +1,5 @@
 // What is printed, and receipts of it that no other module can make: who holds one has had it printed.
-ghost use Rattle.std.specs.Prelude.{[], ◌∷◌, ◌≡◌};
+ghost use Rattle.std.specs.Prelude.{[], ◌∷◌, ◌≡◌, IfOk};
 ghost use Rattle.text.specs.Lines.{glue_line};
 ghost use Rattle.text.specs.Rows.{line_of};
 ghost use Rattle.desk_lines.specs.Through.{AnswersPart};
@@ -7,7 +7,7 @@ ghost use Rattle.desk.specs.Answers.{refused_word};
 ghost use Rattle.desk.specs.Through.{Says};
 
 use desk::Reached;
-use libc::STDOUT_FILENO;
+use std::io;
 
 // A refusal with this number and place; or, where that number is 0, the answers up to this byte of the
 // input, where the line with this number begins.
@@ -20,8 +20,8 @@ pub struct Receipt {
 }
 
 // The one place where the program prints.
-fn print(bytes: &[u8]) {
-    io::write_all(STDOUT_FILENO, bytes);
+fn print(rt: &impl Print, bytes: &[u8]) -> io::Result<()> {
+    rt.write_all(bytes)
 }
 
 // Nothing yet.
@@ -51,21 +51,27 @@ pub fn line_there(printed: Receipt) -> u64
 }
 
 // Prints the line of a refusal with this number and place.
-pub fn print_refusal(number: u64, place: u64, line: &[u8]) -> Receipt
+pub fn print_refusal(
+    rt: &impl Print,
+    number: u64,
+    place: u64,
+    line: &[u8],
+) -> io::Result<Receipt>
     requires { line.now ≡ glue_line (line_of refused_word (number ∷ place ∷ [])) }
-    ensures { (result.refused ≡ number) × (result.place ≡ place) }
+    ensures { IfOk result (λ r. (r.refused ≡ number) × (r.place ≡ place)) }
 {
-    print(line);
-    Receipt {
+    print(rt, line)?;
+    Ok(Receipt {
         refused: number,
         place: place,
         at: 0,
         line: 0,
-    }
+    })
 }
 
 // Prints the answers of the lines from there to the place reached.
 pub fn print_answers(
+    rt: &impl Print,
     contacts: &[u64],
     m: usize,
     ranges: &[u64],
@@ -74,15 +80,15 @@ pub fn print_answers(
     printed: Receipt,
     reached: Reached,
     answers: &[u8],
-) -> Receipt
+) -> io::Result<Receipt>
     requires { AnswersPart (Says contacts.now m ranges.now n) input.now tt printed.at printed.line tt reached.at reached.number answers.now }
-    ensures { (result.refused ≡ 0) × (result.at ≡ reached.at) × (result.line ≡ reached.number) }
+    ensures { IfOk result (λ r. (r.refused ≡ 0) × (r.at ≡ reached.at) × (r.line ≡ reached.number)) }
 {
-    print(answers);
-    Receipt {
+    print(rt, answers)?;
+    Ok(Receipt {
         refused: 0,
         place: 0,
         at: reached.at,
         line: reached.number,
-    }
+    })
 }

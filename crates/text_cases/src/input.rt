@@ -1,8 +1,10 @@
 // The input, text by text.
 ghost use Rattle.std.specs.Prelude.{◌≤◌};
+ghost use Rattle.std.specs.Io.{ReadsAtMost};
 
 use crate::one::judge;
-use libc::STDIN_FILENO;
+use std::io;
+use std::io::Read;
 
 fn wide(b: u8) -> usize
     ensures { result ≤ 255 }
@@ -16,33 +18,50 @@ fn length_of(head: [u8; 4]) -> usize {
     first + wide(head[2]) * 256 + wide(head[3])
 }
 
+// Reads until `buf` is full or the reader is at its end: how many bytes it put at the start of `buf`.
+fn read_full(from: &mut impl Read, buf: &mut [u8]) -> io::Result<usize>
+    ensures { ReadsAtMost result buf.new }
+{
+    let mut done = 0;
+    while done < buf.len() {
+        let n = from.read(&mut buf[done..])?;
+        if n == 0 {
+            break;
+        }
+        done += n;
+    }
+    Ok(done)
+}
+
 // A text read into its bytes, and judged.
-fn fill(text: &mut [u8]) {
-    io::read_full(STDIN_FILENO, text);
-    judge(text);
+fn fill(rt: &impl Print, from: &mut impl Read, text: &mut [u8]) -> io::Result<()> {
+    read_full(from, text)?;
+    judge(rt, text)
 }
 
 // The next text read and judged; false where there is none.
-fn next(text: &mut [u8]) -> bool {
+fn next(rt: &impl Print, from: &mut impl Read, text: &mut [u8]) -> io::Result<bool> {
     let mut head = [0u8; 4];
-    if io::read_full(STDIN_FILENO, &mut head) < 4 {
-        return false;
+    if read_full(from, &mut head)? < 4 {
+        return Ok(false);
     }
     let n = length_of(head);
     if text.len() < n {
-        return false;
+        return Ok(false);
     }
-    fill(&mut text[..n]);
-    true
+    fill(rt, from, &mut text[..n])?;
+    Ok(true)
 }
 
 // Every text, 4,096 at the most.
-pub fn all(text: &mut [u8]) {
+pub fn all(rt: &(impl Print + Input), text: &mut [u8]) -> io::Result<()> {
+    let mut from = rt.reader();
     let mut read: usize = 0;
     while read < 4096 {
-        if !next(text) {
-            return;
+        if !next(rt, &mut from, text)? {
+            return Ok(());
         }
         read += 1;
     }
+    Ok(())
 }

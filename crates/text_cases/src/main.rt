@@ -7,11 +7,13 @@ mod edges;
 mod input;
 mod one;
 
+use std::io;
+
 // The longest text of the input.
 const LONGEST: usize = 131_072;
 
-fn main() {
-    edges::all();
+fn main(rt: HostRuntime) -> io::Result<()> {
+    edges::all(&rt)?;
     let mut text = [0u8; LONGEST];
-    input::all(&mut text);
+    input::all(&rt, &mut text)
 }

@@ -1,6 +1,6 @@
 // One text: what `read` answers, whether the lent words after the rows stayed, and whether `write` gives
 // the bytes back.
-use libc::STDOUT_FILENO;
+use std::io;
 use text::{PlanRead, Written};
 use text_read::read;
 use text_write::write;
@@ -24,81 +24,102 @@ fn is_kept(table: &[u64], n: usize) -> bool {
     true
 }
 
-fn field(n: u64) {
-    io::write_all(STDOUT_FILENO, b"\t");
-    io::print_decimal(STDOUT_FILENO, n);
+fn field(rt: &impl Print, n: u64) -> io::Result<()> {
+    print!(rt; "\t{n}")
 }
 
 // The line's end, after a word where lent memory changed that must not.
-pub fn end(kept: bool) {
+pub fn end(rt: &impl Print, kept: bool) -> io::Result<()> {
     if !kept {
-        io::write_all(STDOUT_FILENO, b"\tchanged");
+        rt.write_all(b"\tchanged")?;
     }
-    io::write_all(STDOUT_FILENO, b"\n");
+    rt.write_all(b"\n")
 }
 
-fn refused(why: Refusal) {
-    io::write_all(STDOUT_FILENO, b"refused");
-    field(units::number(why));
-    field(units::place(why));
+fn refused(rt: &impl Print, why: Refusal) -> io::Result<()> {
+    rt.write_all(b"refused")?;
+    field(rt, units::number(why))?;
+    field(rt, units::place(why))
 }
 
 // The text written back into `out`: its length, where the bytes are the same.
-fn back_into(text: &[u8], contacts: &[u64], m: usize, ranges: &[u64], n: usize, out: &mut [u8]) {
+fn back_into(
+    rt: &impl Print,
+    text: &[u8],
+    contacts: &[u64],
+    m: usize,
+    ranges: &[u64],
+    n: usize,
+    out: &mut [u8],
+) -> io::Result<()> {
     match write(contacts, m, ranges, n, out) {
         Written::Length(k) => {
             if k <= out.len() {
-                if check::same(&out[..k], text) {
-                    field(k as u64);
+                if &out[..k] == text {
+                    field(rt, k as u64)?;
                 }
             }
+            Ok(())
         }
-        Written::Refused(why) => refused(why),
+        Written::Refused(why) => refused(rt, why),
     }
 }
 
-fn back(text: &[u8], contacts: &[u64], m: usize, ranges: &[u64], n: usize) {
+fn back(
+    rt: &impl Print,
+    text: &[u8],
+    contacts: &[u64],
+    m: usize,
+    ranges: &[u64],
+    n: usize,
+) -> io::Result<()> {
     let mut out = [0u8; 46_088];
-    back_into(text, contacts, m, ranges, n, &mut out);
+    back_into(rt, text, contacts, m, ranges, n, &mut out)
 }
 
 // The two counts, or the refusal.
-pub fn counts(answer: PlanRead) {
+pub fn counts(rt: &impl Print, answer: PlanRead) -> io::Result<()> {
     match answer {
         PlanRead::Rows(m, n) => {
-            io::write_all(STDOUT_FILENO, b"plan");
-            field(m as u64);
-            field(n as u64);
+            rt.write_all(b"plan")?;
+            field(rt, m as u64)?;
+            field(rt, n as u64)
         }
-        PlanRead::Refused(why) => refused(why),
+        PlanRead::Refused(why) => refused(rt, why),
     }
 }
 
 // The length, or the refusal.
-pub fn length(answer: Written) {
+pub fn length(rt: &impl Print, answer: Written) -> io::Result<()> {
     match answer {
         Written::Length(k) => {
-            io::write_all(STDOUT_FILENO, b"written");
-            field(k as u64);
+            rt.write_all(b"written")?;
+            field(rt, k as u64)
         }
-        Written::Refused(why) => refused(why),
+        Written::Refused(why) => refused(rt, why),
     }
 }
 
-fn show(text: &[u8], answer: PlanRead, contacts: &[u64], ranges: &[u64]) {
-    counts(answer);
+fn show(
+    rt: &impl Print,
+    text: &[u8],
+    answer: PlanRead,
+    contacts: &[u64],
+    ranges: &[u64],
+) -> io::Result<()> {
+    counts(rt, answer)?;
     match answer {
         PlanRead::Rows(m, n) => {
-            back(text, contacts, m, ranges, n);
-            end(is_kept(contacts, m) & is_kept(ranges, n));
+            back(rt, text, contacts, m, ranges, n)?;
+            end(rt, is_kept(contacts, m) & is_kept(ranges, n))
         }
-        PlanRead::Refused(_) => end(is_kept(contacts, 0) & is_kept(ranges, 0)),
+        PlanRead::Refused(_) => end(rt, is_kept(contacts, 0) & is_kept(ranges, 0)),
     }
 }
 
-pub fn judge(text: &[u8]) {
+pub fn judge(rt: &impl Print, text: &[u8]) -> io::Result<()> {
     let mut contacts = [BLANK; 2560];
     let mut ranges = [BLANK; 2560];
     let answer = read(text, &mut contacts, &mut ranges);
-    show(text, answer, &contacts, &ranges);
+    show(rt, text, answer, &contacts, &ranges)
 }

@@ -10,7 +10,7 @@ use Rattle.route.proofs.AsksCode.{SoFar, none_yet, joined, line_most}
 use Rattle.route.proofs.asks.answer_each.Given as goal
 
 abbrev pub invariant-loop-out : goal.invariant-loop-out
-invariant-loop-out l = SoFar l.contacts l.m l.ranges l.n l.input l.printed × (length l.out ≡ length l.initial.out)
+invariant-loop-out g l = SoFar l.contacts l.m l.ranges l.n l.input l.printed × (length l.out ≡ length l.initial.out)
 
 abbrev pub decreases-loop-out : goal.decreases-loop-out
-decreases-loop-out l = length l.input - l.printed.at
+decreases-loop-out g l = length l.input - l.printed.at

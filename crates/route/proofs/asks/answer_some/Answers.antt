@@ -3,22 +3,24 @@
 use mathlib.Core.Path.{sym}
 use lib.Seq.{length-take-le}
 use borrow.Author.Rules.{rules}
+use Rattle.std.proofs.lemmas.Result.{IfOk-weaker}
 use Rattle.route.proofs.AsksCode.{used_within, part_from, further_from}
 use Rattle.route.proofs.asks.answer_some.Goals as goal
 
 pub slice_bounds-print_answers-end : goal.slice_bounds-print_answers-end
-slice_bounds-print_answers-end c =
+slice_bounds-print_answers-end g c =
     used_within c.args.printed c.answer_lines-reached.ensures c.printed_to-at.ensures c.line_there-line.ensures c.requires.0 c.requires.2
 
 pub slice_bounds-print_answers-end-2 : goal.slice_bounds-print_answers-end-2
-slice_bounds-print_answers-end-2 c = sym (length-take-le _ _ (slice-reshare-prefix-print-answers c))
+slice_bounds-print_answers-end-2 g c = sym (length-take-le _ _ (slice_bounds-print_answers-end g c))
 
 pub print_answers-requires : goal.print_answers-requires
-print_answers-requires c =
+print_answers-requires g c =
     part_from c.args.printed c.answer_lines-reached.ensures c.printed_to-at.ensures c.line_there-line.ensures c.requires.0 c.requires.2
 
 pub returns : goal.returns
-returns c =
-    let printed = c.print_answers.ensures in
-    further_from c.args.printed c.answer_lines-reached.ensures c.printed_to-at.ensures
-    c.line_there-line.ensures c.requires.0 c.requires.2 c.print_answers.result c.requires.1 c.requires.3 printed.0 printed.1 printed.2
+returns g c =
+    IfOk-weaker c.print_answers.result _ _
+        (λ after printed. further_from c.args.printed c.answer_lines-reached.ensures c.printed_to-at.ensures
+            c.line_there-line.ensures c.requires.0 c.requires.2 after c.requires.1 c.requires.3 printed.0 printed.1 printed.2)
+        c.print_answers.ensures
