@@ -7,4 +7,4 @@ use borrow.Author.Rules.{rules}
 use Rattle.text_cases.proofs.one.back_into.Goals as goal
 
 pub slice_bounds-same-end-then-k-out : goal.slice_bounds-same-end-then-k-out
-slice_bounds-same-end-then-k-out c = sym (length-take-le _ _ c.if-k-out.true)
+slice_bounds-same-end-then-k-out g c = sym (length-take-le _ _ c.if-k-out.true)
