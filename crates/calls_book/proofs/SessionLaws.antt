@@ -30,28 +30,40 @@ use Rattle.timing.specs.Hop.{consumed}
 use Rattle.timing.proofs.Rounding.{consumed_form}
 use Rattle.walk.specs.declared.figures.Figures.{Figures}
 use Rattle.calls.specs.Booked.{with_book}
-use Rattle.calls_book.specs.Placing.{booking_of, Releases, not_routed, full, placed, no_plan, no_book, not_open}
+use Rattle.calls_book.specs.Placing.{booking_of, BooksRoute, Releases, not_routed, full, placed, no_plan, no_book, not_open}
 use Rattle.calls_book.specs.Placing as Calls
 use Rattle.calls_book.specs.Session.{stands, leaves, Session, begun, then_booked, then_released}
+use Rattle.calls_book.specs.declared.answers.Placed.{Placed}
 use Rattle.calls_book.specs.declared.answers.Placed.TheVariants.{At}
+use Rattle.calls_book.specs.declared.answers.Released.{Released}
 use Rattle.calls_book.specs.declared.answers.Released.TheVariants.{Freed}
 use Rattle.calls_book.proofs.BookedLaws.{released_use}
 use Rattle.calls_book.proofs.ChosenLaws.{in_plan_named, chosen_booking}
 
 module _ {contacts : List ℕ} {m : ℕ} {ranges : List ℕ} {n : ℕ} where
-  pub session_kept : {t u : List ℕ} {ss : List Standing} → Session contacts m ranges n t u ss → Kept m t u ss
-  unfolding stands leaves
-  session_kept (begun book free) = empty book free
-  session_kept (then_booked s (not_routed r)) = session_kept s
-  session_kept (then_booked s (full r all)) = session_kept s
-  session_kept (then_booked {ask} {class} s (placed {count} {k} {after} r low)) =
+  -- a booking, refused or not, keeps the book
+  kept_booked : {t u : List ℕ} {ss : List Standing} {ask : Ask} {class : ℕ} {before after : List ℕ} {a : Placed} {t' u' : List ℕ} → Kept m t u ss
+      → BooksRoute contacts m ranges n t u ask class before a t' u' after → Kept m t' u' (stands ask class after a ss)
+  unfolding stands
+  kept_booked kept (not_routed r) = kept
+  kept_booked kept (full r all) = kept
+  kept_booked {ask} {class} kept (placed {count} {k} {after} r low) =
       let back : suc k - 1 ≡ k = omega arith in
-      rw back (booked k (booking_of ask class (take count after)) (session_kept s) low (chosen_booking r))
-  session_kept (then_released s (no_plan f)) = session_kept s
-  session_kept (then_released s (no_book p f)) = session_kept s
-  session_kept (then_released s (not_open p b f)) = session_kept s
-  session_kept (then_released {place} s (Calls.released p b o)) =
-      released (place - 1) (session_kept s) (omega (arith, o.least, o.most)) o.is_open
+      rw back (booked k (booking_of ask class (take count after)) kept low (chosen_booking r))
+
+  -- and so does a release
+  kept_released : {t u : List ℕ} {ss : List Standing} {place : ℕ} {a : Released} {t' : List ℕ} → Kept m t u ss
+      → Releases contacts m ranges n t u place a t' → Kept m t' u (leaves place a ss)
+  unfolding leaves
+  kept_released kept (no_plan f) = kept
+  kept_released kept (no_book p f) = kept
+  kept_released kept (not_open p b f) = kept
+  kept_released {place} kept (Calls.released p b o) = released (place - 1) kept (omega (arith, o.least, o.most)) o.is_open
+
+  pub session_kept : {t u : List ℕ} {ss : List Standing} → Session contacts m ranges n t u ss → Kept m t u ss
+  session_kept (begun book free) = empty book free
+  session_kept (then_booked s b) = kept_booked (session_kept s) b
+  session_kept (then_released s r) = kept_released (session_kept s) r
 
   pub session_use : {t u : List ℕ} {ss : List Standing} → Session contacts m ranges n t u ss → (class c : ℕ)
       → used (book_of t u) class c ≡ standing_use ss class c

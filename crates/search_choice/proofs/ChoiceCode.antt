@@ -17,7 +17,7 @@ use Rattle.units.specs.declared.NodeNo.{NodeNo}
 use Rattle.plan.specs.declared.rows.Contact.{Contact}
 use Rattle.service.specs.Service.{Service}
 use Rattle.network.specs.Model.{is_within, leads, lowest_from, lowest}
-use Rattle.network.specs.Network.{When, at, never, Network}
+use Rattle.network.specs.Network.{When, never, Network}
 use Rattle.search_layers.specs.Bridge.{network_of}
 use Rattle.search_layers.specs.Words.{never_word, when_word, row_of, layer_of}
 use Rattle.search_layers.proofs.ArriveCode.{Arrives}

@@ -4,24 +4,21 @@
 --     length_row, get_d_row, row_set, row_set_other      a row, and a store in a row
 --     get_d_layer, layer_set, time_set      the same of the layer that a row holds
 -- Assumes nothing.
-use mathlib.Core.Bool.{Bool, true, false}
 use mathlib.Core.List.{List, [], ◌∷◌, map}
-use mathlib.Core.Logic.{◌⊎◌, ⊎_elim}
+use mathlib.Core.Logic.{⊎_elim}
 use mathlib.Core.Path.{◌≡◌, refl, sym, ap, ◌∙◌, subst}
 use Prim.Native.Nat.{ℕ, zero, suc, ◌+◌, ◌-◌, ◌*◌, ◌≤◌, ◌<◌, zero-le, suc-le-suc, min}
 use native.Mathlib.Nat.{not-suc-le-zero, le_of_suc-le-suc, mul-le-mul_right}
 use native.Mathlib.Decide.{dec_le}
 use native.Mathlib.Omega.{arith}
 use borrow.Author.Tests.{eq-eqb, ne_eqb}
-use lib.Dec.{eqb}
-use lib.ListN.{length, get_or, set, take, drop, length-set, length-take, length-drop, get_or-map, length-map}
-use lib.Seq.{get_or-take, get_or-drop, take-set-lt, take-set-le, drop-set-add, drop-set-lt, get_or-set_same, get_or-set_other}
+use lib.ListN.{length, get_or, set, take, drop, length-take, length-drop, get_or-map, length-map}
+use lib.Seq.{get_or-take, get_or-drop, take-set-lt, take-set-le, drop-set-add, drop-set-lt}
 use Rattle.units.specs.Limits.{last_time, most_light, most_nodes}
 use Rattle.plan.specs.Plan.{Each}
-use Rattle.service.specs.Service.{blank}
 use Rattle.network.specs.Model.{earlier}
-use Rattle.network.specs.Network.{When, at, never, NotLater, both, last}
-use Rattle.search_layers.specs.Words.{never_word, pick_when, when_word, TimeWord, row_of, layer_of}
+use Rattle.network.specs.Network.{at, never, NotLater, both, last}
+use Rattle.search_layers.specs.Words.{never_word, when_word, TimeWord, row_of, layer_of}
 
 pub when_never : (w : ℕ) → w ≡ never_word → when_word w ≡ never
 unfolding when_word

@@ -1,7 +1,7 @@
 -- A plan with an ask, seen as a network: node n of the plan is node n - 1 of the network, and contacts keep their numbers. A reader of the promises
 -- may skip it.
 -- Assumes nothing.
-use Rattle.std.specs.Prelude.{Bool, cond, ℕ, ◌-◌, length}
+use Rattle.std.specs.Prelude.{cond, ℕ, ◌-◌, length}
 use Rattle.units.specs.Limits.{most_nodes}
 use Rattle.units.specs.declared.Ask.{Ask}
 use Rattle.service.specs.Service.{Service, contact_of, light_in, left_in}

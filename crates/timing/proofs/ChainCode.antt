@@ -9,14 +9,14 @@
 --     carry_goes, carry_stops, carry_ends, carry_misses      the chain from place i on, by what the contact there does
 -- Assumes nothing.
 use mathlib.Core.Bool.{Bool, true, false, not, ◌&&◌}
-use mathlib.Core.List.{List, [], ◌∷◌}
+use mathlib.Core.List.{List, ◌∷◌}
 use mathlib.Core.Path.{◌≡◌, refl, sym, ap, ◌∙◌, subst}
-use Prim.Native.Nat.{ℕ, suc, ◌+◌, ◌-◌, ◌≤◌, ◌<◌}
+use Prim.Native.Nat.{ℕ, ◌+◌, ◌-◌, ◌≤◌, ◌<◌}
 use native.Mathlib.Nat.{zero-add}
 use native.Mathlib.Numerals.{add-one}
 use native.Mathlib.Omega.{arith}
 use borrow.Author.Tests.{leb-true, le-leb, lt-leb, eq-eqb, ne_eqb}
-use lib.Dec.{leb, eqb}
+use lib.Dec.{eqb}
 use lib.ListN.{length, get_or, drop, drop_of_length-le}
 use lib.Seq.{drop-cons}
 use Rattle.units.specs.Limits.{last_time, most_light}
@@ -33,7 +33,7 @@ use Rattle.service.specs.Tables.{light_at, left_at, served, IsService}
 use Rattle.timing.specs.declared.arrival.Arrival.{Arrival}
 use Rattle.timing.specs.declared.arrival.Arrival.TheVariants.{Ready, Never}
 use Rattle.timing.specs.Hop.{hopped, is_barred, pick_arrival}
-use Rattle.timing.specs.Model.{goes_on, over_contact, step_over, onward, carry}
+use Rattle.timing.specs.Model.{goes_on, over_contact, step_over, carry}
 use Rattle.timing.proofs.Bounded.{light_good, contact_good}
 use Rattle.timing.proofs.HopLaws.{hop_bounded}
 

@@ -1,7 +1,7 @@
 -- Bytes and time: where nothing of a contact is used, what fits in time fits in bytes too.
 --     fits_in_bytes      so the test of the bytes refuses nothing that the test of the time lets through
 -- Assumes nothing.
-use Prim.Native.Nat.{ℕ, ◌+◌, ◌-◌, ◌*◌, ◌/◌, ◌≤◌}
+use Prim.Native.Nat.{ℕ, ◌+◌, ◌-◌, ◌*◌, ◌≤◌}
 use native.Mathlib.Nat.{le_trans, le-div_iff_mul-le, mul-le-mul_right, mul_comm}
 use lib.Dec.{lit≤}
 use native.Mathlib.Omega.{arith}

@@ -3,7 +3,7 @@
 --     carry         when a chain delivers, or never
 --     back_over      the step back over a contact: ready below it, the file is ready behind the contact below the limit given
 -- Assumes nothing.
-use Rattle.std.specs.Prelude.{Bool, true, false, not, ◌&&◌, cond, List, [], ◌∷◌, ℕ, suc, ◌+◌, ◌-◌, min, leb, ltb, eqb, length}
+use Rattle.std.specs.Prelude.{Bool, not, ◌&&◌, cond, List, [], ◌∷◌, ℕ, suc, ◌+◌, ◌-◌, min, leb, ltb, eqb, length}
 use Rattle.units.specs.declared.Ask.{Ask}
 use Rattle.plan.specs.declared.rows.Contact.{Contact}
 use Rattle.plan.specs.declared.light.Light.{Light}

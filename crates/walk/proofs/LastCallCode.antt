@@ -5,7 +5,7 @@
 --     each_take, each_drop       what holds of each element of a list holds of each of its first, and of those after them
 --     carries_named              every number of a chain that carries names a contact of the plan
 -- Assumes nothing.
-use mathlib.Core.List.{List, [], ◌∷◌, ◌++◌}
+use mathlib.Core.List.{List, [], ◌∷◌}
 use mathlib.Core.Path.{◌≡◌, refl, sym, ap, ◌∙◌}
 use Prim.Native.Nat.{ℕ, zero, suc, ◌+◌, ◌-◌, ◌≤◌, ◌<◌, min}
 use native.Mathlib.Nat.{not-suc-le-zero, le_of_suc-le-suc}
@@ -17,7 +17,7 @@ use Rattle.plan.specs.declared.rows.Contact.{Contact}
 use Rattle.plan.specs.declared.light.Light.{Light}
 use Rattle.plan.specs.Plan.{Each}
 use Rattle.plan.specs.Tables.{contact_at}
-use Rattle.service.specs.Service.{Service, contact_of, light_in, left_in, InPlan}
+use Rattle.service.specs.Service.{Service, light_in, left_in, InPlan}
 use Rattle.service.specs.Tables.{light_at, left_at, served}
 use Rattle.timing.specs.Chain.{Carries, stays, hops}
 use Rattle.timing.specs.Model.{back_over}

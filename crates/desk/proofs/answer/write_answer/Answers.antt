@@ -1,6 +1,5 @@
 -- `desk::answer::write_answer` meets its contract.
 -- Assumes nothing.
-use borrow.Author.Rules.{rules}
 use Rattle.desk.proofs.AnswerCode.{refused_written, answer_is}
 use Rattle.desk.proofs.answer.write_answer.Goals as goal
 

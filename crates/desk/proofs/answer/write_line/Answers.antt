@@ -1,6 +1,5 @@
 -- `desk::answer::write_line` meets its contract.
 -- Assumes nothing.
-use borrow.Author.Rules.{rules}
 use Rattle.desk.proofs.AnswerCode.{line_short, line_done}
 use Rattle.desk.proofs.answer.write_line.Goals as goal
 

@@ -1,6 +1,5 @@
 -- `desk::answer::write_refused` meets its contract.
 -- Assumes nothing.
-use borrow.Author.Rules.{rules}
 use Rattle.desk.specs.Answers.{refused_word}
 use Rattle.desk.proofs.AnswerCode.{refused_line}
 use Rattle.desk.proofs.answer.write_refused.Goals as goal

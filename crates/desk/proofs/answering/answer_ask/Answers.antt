@@ -1,6 +1,5 @@
 -- `desk::answering::answer_ask` meets its contract.
 -- Assumes nothing.
-use borrow.Author.Rules.{rules}
 use Rattle.desk.specs.Desk.{places}
 use Rattle.desk.proofs.answering.answer_ask.Goals as goal
 

@@ -1,6 +1,5 @@
 -- `desk::answering::answer_line` meets its contract.
 -- Assumes nothing.
-use borrow.Author.Rules.{rules}
 use Rattle.desk.proofs.AnsweringCode.{asked_answers, refused_answers}
 use Rattle.desk.proofs.answering.answer_line.Goals as goal
 

@@ -1,6 +1,5 @@
 -- `desk::answering::answer_refused` meets its contract.
 -- Assumes nothing.
-use borrow.Author.Rules.{rules}
 use Rattle.plan.proofs.Verdicts.{true_holds, false_fails}
 use Rattle.desk.specs.Answering.{over_plan, over_none}
 use Rattle.desk.proofs.answering.answer_refused.Goals as goal

@@ -1,6 +1,5 @@
 -- `desk::ask::is_good_excluded` meets its contract.
 -- Assumes nothing.
-use borrow.Author.Rules.{rules}
 use Rattle.desk.specs.AskModel.{good_excluded}
 use Rattle.desk.specs.Asks.{most_excluded}
 use Rattle.desk.proofs.ask.is_good_excluded.Goals as goal

@@ -1,6 +1,5 @@
 -- `desk::ask::judged` meets its contract.
 -- Assumes nothing.
-use borrow.Author.Rules.{rules}
 use Rattle.desk.proofs.AskCode.{judged_asked, judged_bad}
 use Rattle.desk.proofs.ask.judged.Goals as goal
 

@@ -1,7 +1,5 @@
 -- `desk::ask::read_ask` meets its contract.
 -- Assumes nothing.
-use borrow.Author.Tests.{not-true, not-false}
-use borrow.Author.Rules.{rules}
 use Rattle.desk.proofs.AskCode.{read_bad, read_judged}
 use Rattle.desk.proofs.ask.read_ask.Goals as goal
 

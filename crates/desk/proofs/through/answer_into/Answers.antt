@@ -1,7 +1,6 @@
 -- `desk::through::answer_into` meets its contract: 305 bytes are left, so that the line is not refused.
 -- Assumes nothing.
 use native.Mathlib.Omega.{arith}
-use borrow.Author.Rules.{rules}
 use Rattle.desk.proofs.ThroughCode.{answered_into, never_refused}
 use Rattle.desk.proofs.through.answer_into.Goals as goal
 

@@ -1,6 +1,5 @@
 -- `desk::through::answer_lines` meets its contract.
 -- Assumes nothing.
-use borrow.Author.Rules.{rules}
 use Rattle.units.specs.Limits.{most_text}
 use Rattle.desk.specs.Through.{not_taken, taken}
 use Rattle.desk.proofs.ThroughCode.{over_one, over_none}

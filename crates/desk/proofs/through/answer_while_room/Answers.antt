@@ -1,13 +1,10 @@
 -- `desk::through::answer_while_room` meets its contract. The loop's invariant: the bytes used are the answers of the lines up to the place reached.
 -- Assumes nothing.
-use Prim.Native.Nat.{◌-◌}
 use native.Mathlib.Omega.{arith}
-use lib.ListN.{length, drop, length-drop}
-use borrow.Author.Rules.{rules}
+use lib.ListN.{drop, length-drop}
 use Rattle.units.specs.Limits.{most_text}
 use Rattle.desk_lines.proofs.LineLaws.{lines_few, line_inside}
-use Rattle.desk_lines.proofs.TurnLaws.{SoFar, so_far, far_length, far_number, far_lines, fits_now, inside_now, room_now, gets_less, goes_on}
-use Rattle.desk.specs.Through.{longest, Says}
+use Rattle.desk_lines.proofs.TurnLaws.{so_far, far_number, far_lines, fits_now, inside_now, room_now, gets_less, goes_on}
 use Rattle.desk.proofs.through.answer_while_room.Goals as goal
 
 pub loop-at-init : goal.loop-at-init
@@ -47,9 +44,6 @@ loop-at-preserved c =
     let far = c.loop-at.invariant in
     let test = c.loop-at-test.true in
     goes_on far (inside_now far _ test) c.find-end.ensures c.place_after-at.ensures (room_now far test) c.answer_into-used.ensures
-
-pub shape_of-out : goal.shape_of-out
-shape_of-out c = far_length c.loop-at.invariant
 
 pub returns : goal.returns
 returns c = far_lines c.loop-at.invariant c.loop-at-test.false

@@ -1,12 +1,8 @@
 -- `desk::through::answer_while_room` meets its contract. The loop's invariant: the bytes used are the answers of the lines up to the place reached.
 -- Assumes nothing.
 use Prim.Native.Nat.{◌-◌}
-use native.Mathlib.Omega.{arith}
-use lib.ListN.{length, drop, length-drop}
-use borrow.Author.Rules.{rules}
-use Rattle.units.specs.Limits.{most_text}
-use Rattle.desk_lines.proofs.LineLaws.{lines_few, line_inside}
-use Rattle.desk_lines.proofs.TurnLaws.{SoFar, so_far, far_length, far_number, far_lines, fits_now, inside_now, room_now, gets_less, goes_on}
+use lib.ListN.{length}
+use Rattle.desk_lines.proofs.TurnLaws.{SoFar}
 use Rattle.desk.specs.Through.{longest, Says}
 use Rattle.desk.proofs.through.answer_while_room.Given as goal
 

@@ -1,12 +1,7 @@
 -- `plan::valid::is_clear` meets its contract. The loop's invariant: the test of all rows from row k on is the test of those still to come.
 -- Assumes nothing.
 use mathlib.Core.Bool.{not}
-use mathlib.Core.Path.{◌≡◌, refl, ap}
-use Prim.Native.Nat.{◌-◌}
-use native.Mathlib.Omega.{arith}
-use borrow.Author.Rules.{rules}
-use Rattle.plan.specs.Model.{overlap, each}
-use Rattle.plan.specs.Tables.{span_at, rows_from}
+use mathlib.Core.Path.{ap}
 use Rattle.plan.proofs.Loops.{each_goes, each_stops, each_ends}
 use Rattle.plan.proofs.valid.is_clear.Goals as goal
 

@@ -1,13 +1,10 @@
 -- `plan::valid::is_clear` meets its contract. The loop's invariant: the test of all rows from row k on is the test of those still to come.
 -- Assumes nothing.
 use mathlib.Core.Bool.{not}
-use mathlib.Core.Path.{◌≡◌, refl, ap}
+use mathlib.Core.Path.{◌≡◌}
 use Prim.Native.Nat.{◌-◌}
-use native.Mathlib.Omega.{arith}
-use borrow.Author.Rules.{rules}
 use Rattle.plan.specs.Model.{overlap, each}
 use Rattle.plan.specs.Tables.{span_at, rows_from}
-use Rattle.plan.proofs.Loops.{each_goes, each_stops, each_ends}
 use Rattle.plan.proofs.valid.is_clear.Given as goal
 
 abbrev pub invariant-loop-j : goal.invariant-loop-j

@@ -1,6 +1,5 @@
 -- `plan::valid::is_good_contact` meets its contract.
 -- Assumes nothing.
-use borrow.Author.Rules.{rules}
 use Rattle.units.specs.Limits.{last_time, most_rate}
 use Rattle.plan.proofs.valid.is_good_contact.Goals as goal
 

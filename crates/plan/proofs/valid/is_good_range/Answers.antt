@@ -1,6 +1,5 @@
 -- `plan::valid::is_good_range` meets its contract.
 -- Assumes nothing.
-use borrow.Author.Rules.{rules}
 use Rattle.units.specs.Limits.{last_time, most_light}
 use Rattle.plan.proofs.valid.is_good_range.Goals as goal
 

@@ -2,7 +2,6 @@
 -- Assumes nothing.
 use mathlib.Core.Path.{refl}
 use native.Mathlib.Omega.{arith}
-use borrow.Author.Rules.{rules}
 use Rattle.plan_light.proofs.PassCode.{past_kept}
 use Rattle.plan_light.proofs.lights.begin_at.Goals as goal
 

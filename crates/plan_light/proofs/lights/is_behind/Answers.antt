@@ -1,6 +1,6 @@
 -- `plan_light::lights::is_behind` meets its contract.
 -- Assumes nothing.
-use borrow.Author.Tests.{not-false, leb-true}
+use borrow.Author.Tests.{leb-true}
 use Rattle.plan_light.proofs.SharedCode.{never_true}
 use Rattle.plan_light.proofs.lights.is_behind.Goals as goal
 

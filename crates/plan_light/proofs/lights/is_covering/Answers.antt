@@ -1,6 +1,5 @@
 -- `plan_light::lights::is_covering` meets its contract.
 -- Assumes nothing.
-use borrow.Author.Rules.{rules}
 use Rattle.plan_light.proofs.SharedCode.{never_true, joining_joins}
 use Rattle.plan_light.proofs.lights.is_covering.Goals as goal
 

@@ -1,10 +1,8 @@
 -- `plan_light::lights::light_along` meets its contract. The loop's invariant: the walk along the list of the slot of the contact's pair has come to
 -- row j; the time missing and the largest light time so far, with those of the ranges still to come, are those of all ranges.
 -- Assumes nothing.
-use Prim.Native.Nat.{◌-◌}
 use native.Mathlib.Omega.{arith}
-use borrow.Author.Rules.{rules}
-use Rattle.plan_light.proofs.LightsCode.{Walked, walk_starts, walk_good, walk_stops, walk_room, walk_found, walk_goes, walk_ends, next_later}
+use Rattle.plan_light.proofs.LightsCode.{walk_starts, walk_good, walk_stops, walk_room, walk_found, walk_goes, walk_ends, next_later}
 use Rattle.plan_light.proofs.lights.light_along.Goals as goal
 
 pub overflow_sub-missing : goal.overflow_sub-missing

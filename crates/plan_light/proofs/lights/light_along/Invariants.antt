@@ -2,9 +2,7 @@
 -- row j; the time missing and the largest light time so far, with those of the ranges still to come, are those of all ranges.
 -- Assumes nothing.
 use Prim.Native.Nat.{◌-◌}
-use native.Mathlib.Omega.{arith}
-use borrow.Author.Rules.{rules}
-use Rattle.plan_light.proofs.LightsCode.{Walked, walk_starts, walk_good, walk_stops, walk_room, walk_found, walk_goes, walk_ends, next_later}
+use Rattle.plan_light.proofs.LightsCode.{Walked}
 use Rattle.plan_light.proofs.lights.light_along.Given as goal
 
 abbrev pub invariant-loop-j : goal.invariant-loop-j

@@ -1,7 +1,6 @@
 -- `plan_light::lights::light_kept` meets its contract.
 -- Assumes nothing.
 use mathlib.Core.Path.{refl, sym, subst}
-use borrow.Author.Rules.{rules}
 use Rattle.plan_lists.specs.Model.{IsPair}
 use Rattle.plan_light.proofs.LightsCode.{open_covers}
 use Rattle.plan_light.proofs.PassCode.{head_least, head_passed, head_open, head_none}

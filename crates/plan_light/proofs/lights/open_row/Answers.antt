@@ -2,8 +2,6 @@
 -- Assumes nothing.
 use mathlib.Core.Path.{refl}
 use native.Mathlib.Omega.{arith}
-use borrow.Author.Rules.{rules}
-use borrow.Author.Tests.{not-false}
 use lib.ListN.{length-set}
 use Rattle.plan_lists.specs.Model.{most_rows}
 use Rattle.plan_light.proofs.PassCode.{past_at, past_again, passed_first, passed_behind, kept_more}

@@ -1,6 +1,5 @@
 -- `plan_light::lights::pair_of` meets its contract.
 -- Assumes nothing.
-use borrow.Author.Rules.{rules}
 use Rattle.plan_light.proofs.SharedCode.{pair_is}
 use Rattle.plan_light.proofs.lights.pair_of.Goals as goal
 

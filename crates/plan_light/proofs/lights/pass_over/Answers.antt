@@ -1,11 +1,6 @@
 -- `plan_light::lights::pass_over` meets its contract. The loop's invariant: row j is of the list and ends by the time, and `next` is the row behind it.
 -- Assumes nothing.
-use mathlib.Core.Path.{◌≡◌}
-use Prim.Native.Nat.{◌-◌}
 use native.Mathlib.Omega.{arith}
-use lib.ListN.{get_or}
-use Rattle.plan_lists.specs.Lists.{slot_at}
-use Rattle.plan_light.specs.Model.{Past}
 use Rattle.plan_light.proofs.LightsCode.{next_later}
 use Rattle.plan_light.proofs.PassCode.{past_next}
 use Rattle.plan_light.proofs.lights.pass_over.Goals as goal

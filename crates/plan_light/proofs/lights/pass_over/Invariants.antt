@@ -2,12 +2,9 @@
 -- Assumes nothing.
 use mathlib.Core.Path.{◌≡◌}
 use Prim.Native.Nat.{◌-◌}
-use native.Mathlib.Omega.{arith}
 use lib.ListN.{get_or}
 use Rattle.plan_lists.specs.Lists.{slot_at}
 use Rattle.plan_light.specs.Model.{Past}
-use Rattle.plan_light.proofs.LightsCode.{next_later}
-use Rattle.plan_light.proofs.PassCode.{past_next}
 use Rattle.plan_light.proofs.lights.pass_over.Given as goal
 
 abbrev pub invariant-loop-next : goal.invariant-loop-next

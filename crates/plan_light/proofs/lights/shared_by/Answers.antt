@@ -1,8 +1,6 @@
 -- `plan_light::lights::shared_by` meets its contract.
 -- Assumes nothing.
 use mathlib.Core.Path.{◌∙◌}
-use borrow.Author.Rules.{rules}
-use borrow.Author.Tests.{not-true, not-false}
 use Rattle.plan_light.proofs.SharedCode.{joining_joins, apart_shares, shared_is, none_left}
 use Rattle.plan_light.proofs.lights.shared_by.Goals as goal
 

@@ -1,6 +1,5 @@
 -- `plan_lists::leaving::leaves` meets its contract.
 -- Assumes nothing.
-use borrow.Author.Rules.{rules}
 use Rattle.plan_lists.proofs.LinkCode.{node_read, node_found}
 use Rattle.plan_lists.proofs.leaving.leaves.Goals as goal
 

@@ -1,14 +1,10 @@
 -- `plan_lists::leaving::link_from` meets its contract. The loop's invariant: the contacts from row i on are linked.
 -- Assumes nothing.
-use mathlib.Core.Path.{◌≡◌, refl, ◌∙◌}
-use Prim.Native.Nat.{◌≤◌, ◌<◌}
-use native.Mathlib.Omega.{arith}
-use borrow.Author.Rules.{rules}
-use lib.ListN.{length, length-set}
-use Rattle.units.specs.Limits.{most_nodes}
+use mathlib.Core.Path.{◌≡◌}
+use Prim.Native.Nat.{◌≤◌}
+use lib.ListN.{length}
 use Rattle.plan_lists.specs.Leaving.{from_at}
-use Rattle.plan_lists.specs.Model.{most_rows}
-use Rattle.plan_lists.proofs.LinkCode.{LinkedFrom, linked_none, linked_row, linked_all}
+use Rattle.plan_lists.proofs.LinkCode.{LinkedFrom}
 use Rattle.plan_lists.proofs.leaving.link_from.Given as goal
 
 abbrev pub invariant-loop-i : goal.invariant-loop-i

@@ -1,9 +1,8 @@
 -- `plan_lists::linking::fill` meets its contract. The loop's invariant: the words so far are set.
 -- Assumes nothing.
-use mathlib.Core.Path.{◌≡◌, refl}
-use Prim.Native.Nat.{ℕ, ◌-◌, ◌<◌}
+use mathlib.Core.Path.{refl}
 use native.Mathlib.Omega.{arith}
-use lib.ListN.{length, get_or, length-set}
+use lib.ListN.{length-set}
 use Rattle.plan_lists.proofs.LinkCode.{fill_more}
 use Rattle.plan_lists.proofs.linking.fill.Goals as goal
 

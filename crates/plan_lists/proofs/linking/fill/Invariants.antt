@@ -1,10 +1,8 @@
 -- `plan_lists::linking::fill` meets its contract. The loop's invariant: the words so far are set.
 -- Assumes nothing.
-use mathlib.Core.Path.{◌≡◌, refl}
+use mathlib.Core.Path.{◌≡◌}
 use Prim.Native.Nat.{ℕ, ◌-◌, ◌<◌}
-use native.Mathlib.Omega.{arith}
-use lib.ListN.{length, get_or, length-set}
-use Rattle.plan_lists.proofs.LinkCode.{fill_more}
+use lib.ListN.{length, get_or}
 use Rattle.plan_lists.proofs.linking.fill.Given as goal
 
 abbrev pub invariant-loop-s : goal.invariant-loop-s

@@ -1,6 +1,5 @@
 -- `plan_lists::linking::is_followed` meets its contract.
 -- Assumes nothing.
-use borrow.Author.Rules.{rules}
 use Rattle.plan_lists.proofs.LinkCode.{followed_last, followed_tells}
 use Rattle.plan_lists.proofs.linking.is_followed.Goals as goal
 

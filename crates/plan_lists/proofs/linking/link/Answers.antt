@@ -3,14 +3,10 @@
 use mathlib.Core.Path.{◌≡◌, refl, sym, ◌∙◌, subst}
 use Prim.Native.Nat.{◌≤◌, ◌<◌}
 use native.Mathlib.Omega.{arith}
-use borrow.Author.Rules.{rules}
-use borrow.Author.Tests.{not-true, not-false}
 use lib.ListN.{length, length-set}
-use Rattle.plan.specs.Verdict.{Verdict}
-use Rattle.plan_lists.specs.Lists.{slot_at}
 use Rattle.plan_lists.specs.Model.{slots, most_rows, IsPair}
-use Rattle.plan_lists.proofs.LinkCode.{LinkedFrom, linked_none, linked_row, linked_all, slot_found}
-use Rattle.plan_lists.proofs.LinkCode.{OrderedFrom, ordered_none, ordered_stays, ordered_stops, ordered_all}
+use Rattle.plan_lists.proofs.LinkCode.{linked_none, linked_row, linked_all, slot_found}
+use Rattle.plan_lists.proofs.LinkCode.{ordered_none, ordered_stays, ordered_stops, ordered_all}
 use Rattle.plan_lists.proofs.linking.link.Goals as goal
 
 pub narrow-requires : goal.narrow-requires

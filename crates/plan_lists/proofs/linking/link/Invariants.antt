@@ -1,16 +1,12 @@
 -- `plan_lists::linking::link` meets its contract. The loop's invariant: the rows from row i on are linked, and `ordered` tells whether they are in order.
 -- Assumes nothing.
-use mathlib.Core.Path.{◌≡◌, refl, sym, ◌∙◌, subst}
-use Prim.Native.Nat.{◌≤◌, ◌<◌}
-use native.Mathlib.Omega.{arith}
-use borrow.Author.Rules.{rules}
-use borrow.Author.Tests.{not-true, not-false}
-use lib.ListN.{length, length-set}
+use mathlib.Core.Path.{◌≡◌}
+use Prim.Native.Nat.{◌≤◌}
+use lib.ListN.{length}
 use Rattle.plan.specs.Verdict.{Verdict}
 use Rattle.plan_lists.specs.Lists.{slot_at}
-use Rattle.plan_lists.specs.Model.{slots, most_rows, IsPair}
-use Rattle.plan_lists.proofs.LinkCode.{LinkedFrom, linked_none, linked_row, linked_all, slot_found}
-use Rattle.plan_lists.proofs.LinkCode.{OrderedFrom, ordered_none, ordered_stays, ordered_stops, ordered_all}
+use Rattle.plan_lists.proofs.LinkCode.{LinkedFrom}
+use Rattle.plan_lists.proofs.LinkCode.{OrderedFrom}
 use Rattle.plan_lists.proofs.linking.link.Given as goal
 
 abbrev pub invariant-loop-i : goal.invariant-loop-i

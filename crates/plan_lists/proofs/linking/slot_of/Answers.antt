@@ -1,7 +1,6 @@
 -- `plan_lists::linking::slot_of` meets its contract.
 -- Assumes nothing.
 use native.Mathlib.Omega.{arith}
-use borrow.Author.Rules.{rules}
 use Rattle.units.specs.Limits.{most_nodes}
 use Rattle.plan_lists.specs.Lists.{pair_slot}
 use Rattle.plan_lists.specs.Model.{slots}

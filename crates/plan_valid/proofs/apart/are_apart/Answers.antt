@@ -1,7 +1,6 @@
 -- `plan_valid::apart::are_apart` meets its contract.
 -- Assumes nothing.
 use native.Mathlib.Omega.{arith}
-use borrow.Author.Rules.{rules}
 use Rattle.plan.specs.Verdict.{holds}
 use Rattle.plan.proofs.Verdicts.{true_holds}
 use Rattle.plan_valid.specs.Model.{Below}

@@ -1,7 +1,5 @@
 -- `plan_valid::apart::are_both_apart` meets its contract.
 -- Assumes nothing.
-use borrow.Author.Rules.{rules}
-use borrow.Author.Tests.{not-true, not-false}
 use Rattle.plan_valid.proofs.ApartCode.{first_overlaps, second_tells}
 use Rattle.plan_valid.proofs.apart.are_both_apart.Goals as goal
 

@@ -1,10 +1,7 @@
 -- `plan_valid::apart::are_clear` meets its contract. The loop's invariant: no later row overlaps one of the rows so far.
 -- Assumes nothing.
 use Prim.Native.Nat.{◌-◌}
-use native.Mathlib.Omega.{arith}
-use borrow.Author.Tests.{not-true, not-false}
-use Rattle.plan_valid.specs.Model.{Below, ClearAfter, Apart}
-use Rattle.plan_valid.proofs.ApartCode.{below_none, below_stops, below_goes, below_ends}
+use Rattle.plan_valid.specs.Model.{Below, ClearAfter}
 use Rattle.plan_valid.proofs.apart.are_clear.Given as goal
 
 abbrev pub invariant-loop-i : goal.invariant-loop-i

@@ -1,7 +1,6 @@
 -- `plan_valid::apart::are_rows_apart` meets its contract.
 -- Assumes nothing.
 use native.Mathlib.Omega.{arith}
-use borrow.Author.Rules.{rules}
 use Rattle.plan_lists.specs.Model.{slots, most_rows}
 use Rattle.plan_valid.proofs.apart.are_rows_apart.Goals as goal
 

@@ -1,10 +1,8 @@
 -- `plan_valid::apart::is_clear_after` meets its contract. The loop's invariant: the walk has come to row j, and no row of the slot before it overlaps row i.
 -- Assumes nothing.
-use Prim.Native.Nat.{◌-◌}
 use native.Mathlib.Omega.{arith}
-use borrow.Author.Rules.{rules}
 use Rattle.plan_lists.specs.Lists.{Nexts}
-use Rattle.plan_valid.proofs.ApartCode.{Cleared, clear_starts, clear_stops, clear_goes, clear_ends}
+use Rattle.plan_valid.proofs.ApartCode.{clear_starts, clear_stops, clear_goes, clear_ends}
 use Rattle.plan_valid.proofs.apart.is_clear_after.Goals as goal
 
 pub loop-j-init : goal.loop-j-init

@@ -1,10 +1,7 @@
 -- `plan_valid::apart::is_clear_after` meets its contract. The loop's invariant: the walk has come to row j, and no row of the slot before it overlaps row i.
 -- Assumes nothing.
 use Prim.Native.Nat.{◌-◌}
-use native.Mathlib.Omega.{arith}
-use borrow.Author.Rules.{rules}
-use Rattle.plan_lists.specs.Lists.{Nexts}
-use Rattle.plan_valid.proofs.ApartCode.{Cleared, clear_starts, clear_stops, clear_goes, clear_ends}
+use Rattle.plan_valid.proofs.ApartCode.{Cleared}
 use Rattle.plan_valid.proofs.apart.is_clear_after.Given as goal
 
 abbrev pub invariant-loop-j : goal.invariant-loop-j

@@ -1,12 +1,7 @@
 -- `plan_valid::good::are_good_ranges` meets its contract. The loop's invariant: the test of all rows is the test of those still to come.
 -- Assumes nothing.
-use mathlib.Core.Path.{◌≡◌, ap}
-use Prim.Native.Nat.{◌-◌}
-use native.Mathlib.Omega.{arith}
-use borrow.Author.Rules.{rules}
-use borrow.Author.Tests.{not-true, not-false}
+use mathlib.Core.Path.{ap}
 use Rattle.plan.specs.Model.{good_range, each}
-use Rattle.plan.specs.Tables.{range_at, rows_from}
 use Rattle.plan.proofs.Loops.{rows_all, each_goes, each_stops, each_ends}
 use Rattle.plan_valid.proofs.good.are_good_ranges.Goals as goal
 

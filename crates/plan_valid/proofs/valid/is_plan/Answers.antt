@@ -1,8 +1,6 @@
 -- `plan_valid::valid::is_plan` meets its contract.
 -- Assumes nothing.
 use native.Mathlib.Nat.{not-le_of_lt}
-use borrow.Author.Rules.{rules}
-use borrow.Author.Tests.{not-true, not-false}
 use Rattle.units.specs.Limits.{most_contacts, most_ranges}
 use Rattle.plan.specs.Verdict.{fails}
 use Rattle.plan.proofs.Lent.{contacts_counted, ranges_counted}

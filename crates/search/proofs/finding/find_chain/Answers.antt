@@ -1,6 +1,5 @@
 -- `search::finding::find_chain` meets its contract.
 -- Assumes nothing.
-use borrow.Author.Rules.{rules}
 use Rattle.search_layers.proofs.FillCode.{blank_is}
 use Rattle.search.proofs.finding.find_chain.Goals as goal
 

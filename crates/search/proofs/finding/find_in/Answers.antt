@@ -2,7 +2,6 @@
 -- Assumes nothing.
 use mathlib.Core.Path.{sym}
 use native.Mathlib.Nat.{le_refl, le_trans}
-use borrow.Author.Rules.{rules}
 use Rattle.search_layers.specs.Words.{never_word}
 use Rattle.search.proofs.FindCode.{row_inside, delivered_at, delivered_most, count_is, count_room, find_none, find_late, find_best}
 use Rattle.search.proofs.finding.find_in.Goals as goal
@@ -32,16 +31,16 @@ choose-requires c =
     let filled = c.fill-last.ensures in
     let read = c.get-delivered.ensures in
     let first = c.first_row-count.ensures in
-    let some = c.if-delivered.false in (
-      (pre.0, pre.1, filled.timed, row_inside _ _ _ _ filled first.most),
-      (
+    let some = c.if-delivered.false in record {
+      service = (pre.0, pre.1, filled.timed, row_inside _ _ _ _ filled first.most);
+      by_index = (
         (λ j h. filled.rows j (le_trans h first.most)),
         delivered_at _ _ pre.1 _ _ filled _ read some,
         count_is _ _ pre.1 _ _ filled _ read some _ first,
         le_trans (count_room _ _ pre.1 _ _ filled _ read some _ first) pre.4,
         delivered_most _ _ pre.1 _ _ filled _ read some,
-      ),
-    )
+      );
+    }
 
 pub returns : goal.returns
 unfolding never_word

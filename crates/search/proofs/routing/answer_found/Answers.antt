@@ -1,6 +1,5 @@
 -- `search::routing::answer_found` meets its contract.
 -- Assumes nothing.
-use borrow.Author.Rules.{rules}
 use Rattle.search.proofs.RouteCode.{chain_counted, chain_named, chain_some, answer_best, answer_none}
 use Rattle.search.proofs.routing.answer_found.Goals as goal
 

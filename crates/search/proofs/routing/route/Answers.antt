@@ -1,8 +1,6 @@
 -- `search::routing::route` meets its contract.
 -- Assumes nothing.
 use mathlib.Core.Path.{sym, ◌∙◌, subst₂}
-use borrow.Author.Rules.{rules}
-use borrow.Author.Tests.{not-true, not-false}
 use Rattle.units.specs.Limits.{most_chain}
 use Rattle.plan.proofs.Verdicts.{true_holds, false_fails}
 use Rattle.walk.proofs.WalkCode.{good_ask_tells}
@@ -18,25 +16,25 @@ returns-then-chain-lt-MOST_CHAIN c = short_chain c.if-chain-lt-MOST_CHAIN.true
 
 pub returns-then-not-is_plan : goal.returns-then-not-is_plan
 unfolding most_chain
-returns-then-not-is_plan c = no_plan c.if-chain-lt-MOST_CHAIN.false (false_fails c.is_plan.ensures (not-true _ c.if-not-is_plan.true))
+returns-then-not-is_plan c = no_plan c.if-chain-lt-MOST_CHAIN.false (false_fails c.is_plan.ensures c.if-not-is_plan.true)
 
 pub returns-then-not-is_good_ask : goal.returns-then-not-is_good_ask
 unfolding most_chain
 returns-then-not-is_good_ask c =
-    bad_ask c.if-chain-lt-MOST_CHAIN.false (true_holds c.is_plan.ensures (not-false _ c.if-not-is_plan.false))
-    (false_fails (good_ask_tells _) (sym c.is_good_ask.ensures ∙ not-true _ c.if-not-is_good_ask.true))
+    bad_ask c.if-chain-lt-MOST_CHAIN.false (true_holds c.is_plan.ensures c.if-not-is_plan.false)
+    (false_fails (good_ask_tells _) (sym c.is_good_ask.ensures ∙ c.if-not-is_good_ask.true))
 
 pub returns-then-ask : goal.returns-then-ask
 unfolding most_chain
 returns-then-ask c =
-    same_node c.if-chain-lt-MOST_CHAIN.false (true_holds c.is_plan.ensures (not-false _ c.if-not-is_plan.false))
-    (true_holds (good_ask_tells _) (sym c.is_good_ask.ensures ∙ not-false _ c.if-not-is_good_ask.false)) c.if-ask.true
+    same_node c.if-chain-lt-MOST_CHAIN.false (true_holds c.is_plan.ensures c.if-not-is_plan.false)
+    (true_holds (good_ask_tells _) (sym c.is_good_ask.ensures ∙ c.if-not-is_good_ask.false)) c.if-ask.true
 
 pub route_plan-requires : goal.route_plan-requires
 unfolding most_chain
 route_plan-requires c = (
-  true_holds c.is_plan.ensures (not-false _ c.if-not-is_plan.false),
-  true_holds (good_ask_tells _) (sym c.is_good_ask.ensures ∙ not-false _ c.if-not-is_good_ask.false),
+  true_holds c.is_plan.ensures c.if-not-is_plan.false,
+  true_holds (good_ask_tells _) (sym c.is_good_ask.ensures ∙ c.if-not-is_good_ask.false),
   c.if-ask.false,
   c.if-chain-lt-MOST_CHAIN.false,
 )
@@ -44,8 +42,8 @@ route_plan-requires c = (
 pub returns : goal.returns
 unfolding most_chain
 returns c =
-    let plan = true_holds c.is_plan.ensures (not-false _ c.if-not-is_plan.false) in
-    let good = true_holds (good_ask_tells _) (sym c.is_good_ask.ensures ∙ not-false _ c.if-not-is_good_ask.false) in
+    let plan = true_holds c.is_plan.ensures c.if-not-is_plan.false in
+    let good = true_holds (good_ask_tells _) (sym c.is_good_ask.ensures ∙ c.if-not-is_good_ask.false) in
     let differ = c.if-ask.false in
     let answer = c.route_plan.ensures in
     routed c.if-chain-lt-MOST_CHAIN.false plan good differ

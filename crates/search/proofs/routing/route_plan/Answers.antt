@@ -1,7 +1,6 @@
 -- `search::routing::route_plan` meets its contract.
 -- Assumes nothing.
 use native.Mathlib.Omega.{arith}
-use borrow.Author.Rules.{rules}
 use Rattle.units.specs.Limits.{most_contacts}
 use Rattle.search.proofs.routing.route_plan.Goals as goal
 

@@ -4,12 +4,9 @@ use mathlib.Core.Path.{◌≡◌, refl}
 use Prim.Native.Nat.{ℕ, ◌+◌, ◌-◌}
 use native.Mathlib.Nat.{le_trans, mul-le-mul_right}
 use native.Mathlib.Omega.{arith}
-use Rattle.units.specs.Limits.{last_time, most_light, most_nodes, IsNode}
-use Rattle.service.specs.Tables.{served}
-use Rattle.search_layers.specs.Bridge.{network_of}
-use Rattle.search_layers.specs.Bridge.{goal}
+use Rattle.units.specs.Limits.{last_time, most_light, most_nodes}
 use Rattle.search_choice.specs.Model.{chain_of}
-use Rattle.search_choice.proofs.ChooseCode.{Working, working_begins, working_ends, lead_named, found_leads, found_goes}
+use Rattle.search_choice.proofs.ChooseCode.{working_begins, working_ends, lead_named, found_leads, found_goes}
 use Rattle.search_layers.proofs.NetworkLaws.{network_laws}
 use Rattle.search_layers.proofs.ReadCode.{contact_read}
 use Rattle.timing.proofs.ChainCode.{named_at_most}
@@ -21,47 +18,47 @@ one_less d = omega arith
 
 pub overflow_add-limit : goal.overflow_add-limit
 unfolding last_time most_light
-overflow_add-limit c = omega (arith, c.requires.1.4)
+overflow_add-limit c = omega (arith, c.requires.by_index.4)
 
 pub loop-k-init : goal.loop-k-init
 loop-k-init c =
     let pre = c.requires in
-    (rw (one_less c.args.delivered.0) (working_begins _ (network_laws _ pre.0.0.sound _ pre.0.1) _ _ _ _ pre.1.1 pre.1.2), pre.0.1.destination_node)
+    (rw (one_less c.args.delivered.0) (working_begins _ (network_laws _ pre.service.0.sound _ pre.service.1) _ _ _ _ pre.by_index.1 pre.by_index.2), pre.service.1.destination_node)
 
 pub lowest_leading-no-requires : goal.lowest_leading-no-requires
 lowest_leading-no-requires c =
     let pre = c.requires in
     let inv = c.loop-k.invariant in (
-      pre.0.0,
-      pre.0.1,
-      pre.0.2,
-      le_trans (mul-le-mul_right most_nodes (omega (arith, inv.0.most, c.loop-k-test.true))) pre.0.3,
+      pre.service.0,
+      pre.service.1,
+      pre.service.2,
+      le_trans (mul-le-mul_right most_nodes (omega (arith, inv.0.most, c.loop-k-test.true))) pre.service.3,
       inv.1,
     )
 
 pub offset_bounds-chain-k : goal.offset_bounds-chain-k
 offset_bounds-chain-k c =
-    omega (arith, c.loop-k.invariant.0.most, c.requires.1.3, c.well_formed)
+    omega (arith, c.loop-k.invariant.0.most, c.requires.by_index.3, c.well_formed)
 
 pub bounds-chain-k : goal.bounds-chain-k
 bounds-chain-k c =
     let working = c.loop-k.invariant.0 in
-    omega (arith, working.most, working.long, c.loop-k-test.true, c.requires.1.3)
+    omega (arith, working.most, working.long, c.loop-k-test.true, c.requires.by_index.3)
 
 pub back_over-limit-requires : goal.back_over-limit-requires
 back_over-limit-requires c =
     let pre = c.requires in
-    let laws = network_laws _ pre.0.0.sound _ pre.0.1 in
-    let leads = found_leads _ _ laws _ _ _ _ _ _ _ _ _ _ c.loop-k-test.true c.loop-k.invariant.0 pre.1.0 c.lowest_leading-no.ensures in
-    (pre.0.0, lead_named _ _ _ _ _ _ leads, pre.0.1.size_most)
+    let laws = network_laws _ pre.service.0.sound _ pre.service.1 in
+    let leads = found_leads _ _ laws _ _ _ _ _ _ _ _ _ _ c.loop-k-test.true c.loop-k.invariant.0 pre.by_index.0 c.lowest_leading-no.ensures in
+    (pre.service.0, lead_named _ _ _ _ _ _ leads, pre.service.1.size_most)
 
 pub contact_numbered-requires : goal.contact_numbered-requires
 contact_numbered-requires c =
     let pre = c.requires in
-    let laws = network_laws _ pre.0.0.sound _ pre.0.1 in
-    let leads = found_leads _ _ laws _ _ _ _ _ _ _ _ _ _ c.loop-k-test.true c.loop-k.invariant.0 pre.1.0 c.lowest_leading-no.ensures in
+    let laws = network_laws _ pre.service.0.sound _ pre.service.1 in
+    let leads = found_leads _ _ laws _ _ _ _ _ _ _ _ _ _ c.loop-k-test.true c.loop-k.invariant.0 pre.by_index.0 c.lowest_leading-no.ensures in
     let named = lead_named _ _ _ _ _ _ leads in
-    omega (arith, named.least, named_at_most _ _ _ _ _ named, pre.0.0.contacts_lent)
+    omega (arith, named.least, named_at_most _ _ _ _ _ named, pre.service.0.contacts_lent)
 
 pub loop-k-smaller : goal.loop-k-smaller
 loop-k-smaller c = omega (arith, c.loop-k-test.true)
@@ -69,12 +66,12 @@ loop-k-smaller c = omega (arith, c.loop-k-test.true)
 pub loop-k-preserved : goal.loop-k-preserved
 loop-k-preserved c =
     let pre = c.requires in
-    let laws = network_laws _ pre.0.0.sound _ pre.0.1 in
+    let laws = network_laws _ pre.service.0.sound _ pre.service.1 in
     let working = c.loop-k.invariant.0 in
     let found = c.lowest_leading-no.ensures in
-    let leads = found_leads _ _ laws _ _ _ _ _ _ _ _ _ _ c.loop-k-test.true working pre.1.0 found in
-    let read = contact_read _ _ _ _ _ pre.0.0 (lead_named _ _ _ _ _ _ leads) _ c.contact_numbered.ensures in (
-      found_goes _ _ laws _ _ _ _ _ _ _ _ _ _ c.loop-k-test.true working pre.1.0 found _ _ _ pre.1.3 refl read c.back_over-limit.ensures,
+    let leads = found_leads _ _ laws _ _ _ _ _ _ _ _ _ _ c.loop-k-test.true working pre.by_index.0 found in
+    let read = contact_read _ _ _ _ _ pre.service.0 (lead_named _ _ _ _ _ _ leads) _ c.contact_numbered.ensures in (
+      found_goes _ _ laws _ _ _ _ _ _ _ _ _ _ c.loop-k-test.true working pre.by_index.0 found _ _ _ pre.by_index.3 refl read c.back_over-limit.ensures,
       read.good.from_node,
     )
 
@@ -86,4 +83,4 @@ unfolding chain_of
 returns c =
     let pre = c.requires in
     rw (one_less c.args.delivered.0) at
-    (working_ends _ (network_laws _ pre.0.0.sound _ pre.0.1) _ _ _ _ _ _ _ _ c.loop-k-test.false c.loop-k.invariant.0)
+    (working_ends _ (network_laws _ pre.service.0.sound _ pre.service.1) _ _ _ _ _ _ _ _ c.loop-k-test.false c.loop-k.invariant.0)

@@ -1,18 +1,11 @@
 -- `search_choice::choice::choose` meets its contract. The loop's invariant: k contacts are still to be chosen before those that stand in the chain.
 -- Assumes nothing.
-use mathlib.Core.Path.{◌≡◌, refl}
-use Prim.Native.Nat.{ℕ, ◌+◌, ◌-◌}
-use native.Mathlib.Nat.{le_trans, mul-le-mul_right}
-use native.Mathlib.Omega.{arith}
-use Rattle.units.specs.Limits.{last_time, most_light, most_nodes, IsNode}
+use Prim.Native.Nat.{◌-◌}
+use Rattle.units.specs.Limits.{IsNode}
 use Rattle.service.specs.Tables.{served}
 use Rattle.search_layers.specs.Bridge.{network_of}
 use Rattle.search_layers.specs.Bridge.{goal}
-use Rattle.search_choice.specs.Model.{chain_of}
-use Rattle.search_choice.proofs.ChooseCode.{Working, working_begins, working_ends, lead_named, found_leads, found_goes}
-use Rattle.search_layers.proofs.NetworkLaws.{network_laws}
-use Rattle.search_layers.proofs.ReadCode.{contact_read}
-use Rattle.timing.proofs.ChainCode.{named_at_most}
+use Rattle.search_choice.proofs.ChooseCode.{Working}
 use Rattle.search_choice.proofs.choice.choose.Given as goal
 
 abbrev pub invariant-loop-k : goal.invariant-loop-k

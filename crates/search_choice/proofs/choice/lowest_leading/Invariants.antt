@@ -1,14 +1,10 @@
 -- `search_choice::choice::lowest_leading` meets its contract.
 -- Assumes nothing.
-use mathlib.Core.Path.{◌≡◌, sym, ◌∙◌}
+use mathlib.Core.Path.{◌≡◌}
 use Prim.Native.Nat.{◌+◌, ◌-◌, ◌≤◌}
-use native.Mathlib.Omega.{arith}
-use Rattle.timing.proofs.ChainCode.{named_in_plan}
 use Rattle.network.specs.Model.{lowest, lowest_from}
 use Rattle.search_layers.specs.Bridge.{network_of}
 use Rattle.search_layers.specs.Words.{layer_of}
-use Rattle.search_choice.proofs.ChoiceCode.{lowest_begins, lowest_goes, lowest_stops, lowest_ends}
-use Rattle.search_layers.proofs.FillCode.{contacts_counted}
 use Rattle.service.specs.Tables.{served}
 use Rattle.search_choice.proofs.choice.lowest_leading.Given as goal
 

@@ -1,7 +1,6 @@
 -- `search_layers::filling::fill` meets its contract.
 -- Assumes nothing.
 use native.Mathlib.Omega.{arith}
-use borrow.Author.Rules.{rules}
 use Rattle.units.specs.Limits.{most_nodes}
 use Rattle.plan_lists.specs.Model.{most_rows}
 use Rattle.search_layers.proofs.filling.fill.Goals as goal

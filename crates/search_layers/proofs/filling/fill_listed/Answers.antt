@@ -1,7 +1,6 @@
 -- `search_layers::filling::fill_listed` meets its contract.
 -- Assumes nothing.
 use mathlib.Core.Path.{◌∙◌}
-use borrow.Author.Rules.{rules}
 use Rattle.search_layers.proofs.ListedCode.{linkable_from, listed_from}
 use Rattle.search_layers.proofs.filling.fill_listed.Goals as goal
 

@@ -1,14 +1,10 @@
 -- `search_layers::filling::fill_rows` meets its contract. The loop's invariant: the rows up to k are the network's layers, and row `old` is older than row k.
 -- Assumes nothing.
 use mathlib.Core.Path.{◌≡◌, sym, ap, ◌∙◌}
-use Prim.Native.Nat.{◌-◌, ◌≤◌}
 use native.Mathlib.Omega.{arith}
 use lib.ListN.{length}
 use Rattle.units.specs.Limits.{most_nodes}
-use Rattle.service.specs.Tables.{served}
-use Rattle.search_layers.specs.Bridge.{network_of}
-use Rattle.search_layers.specs.Words.{Older}
-use Rattle.search_layers.proofs.FillCode.{RowsTo, length_blank, contacts_counted, rows_begin, rows_next, rows_settled, rows_all, older_begin, older_next}
+use Rattle.search_layers.proofs.FillCode.{length_blank, contacts_counted, rows_begin, rows_next, rows_settled, rows_all, older_begin, older_next}
 use Rattle.search_layers.proofs.NetworkLaws.{network_laws}
 use Rattle.search_layers.proofs.filling.fill_rows.Goals as goal
 

@@ -1,7 +1,6 @@
 -- `search_layers::filling::next_row` meets its contract.
 -- Assumes nothing.
 use native.Mathlib.Omega.{arith}
-use borrow.Author.Rules.{rules}
 use Rattle.search_layers.proofs.FillCode.{copied_same, next_made, older_kept}
 use Rattle.search_layers.proofs.filling.next_row.Goals as goal
 

@@ -1,9 +1,7 @@
 -- `search_layers::rows::copy_row` meets its contract.
 -- Assumes nothing.
 use Prim.Native.Nat.{◌-◌, ◌≤◌}
-use native.Mathlib.Omega.{arith}
-use Rattle.units.specs.Limits.{most_nodes}
-use Rattle.search_layers.proofs.CopyCode.{Copied, copied_none, copied_more, copied_all}
+use Rattle.search_layers.proofs.CopyCode.{Copied}
 use Rattle.search_layers.proofs.rows.copy_row.Given as goal
 
 abbrev pub invariant-loop-copied : goal.invariant-loop-copied

@@ -2,7 +2,6 @@
 -- Assumes nothing.
 use mathlib.Core.Path.{sym}
 use native.Mathlib.Omega.{arith}
-use borrow.Author.Rules.{rules}
 use Rattle.units.specs.Limits.{most_nodes}
 use Rattle.search_layers.proofs.NetworkLaws.{node_below}
 use Rattle.search_layers.proofs.RowLaws.{get_d_row}

@@ -1,6 +1,5 @@
 -- `search_layers::trying::is_shut` meets its contract.
 -- Assumes nothing.
-use borrow.Author.Rules.{rules}
 use Rattle.search_layers.specs.Words.{never_word}
 use Rattle.search_layers.proofs.trying.is_shut.Goals as goal
 

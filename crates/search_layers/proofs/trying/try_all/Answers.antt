@@ -1,15 +1,10 @@
 -- `search_layers::trying::try_all` meets its contract. The loop's invariant: the contacts from the nodes up to `tried` are tried, and if the words of none of them differed
 -- the rows are as they were.
 -- Assumes nothing.
-use mathlib.Core.Bool.{true}
-use mathlib.Core.Path.{◌≡◌, refl, sym, ◌∙◌, subst}
-use Prim.Native.Nat.{◌-◌, ◌≤◌, ◌<◌}
+use mathlib.Core.Path.{refl, sym, ◌∙◌, subst}
 use native.Mathlib.Omega.{arith}
 use lib.Dec.{T}
 use Rattle.units.specs.Limits.{most_nodes}
-use Rattle.service.specs.Tables.{served}
-use Rattle.search_layers.specs.Bridge.{network_of}
-use Rattle.search_layers.specs.Words.{Tried}
 use Rattle.search_layers.proofs.FillCode.{older_kept}
 use Rattle.search_layers.proofs.TriedCode.{tried_none, tried_more, tried_nodes, still_lower}
 use Rattle.search_layers.proofs.trying.try_all.Goals as goal

@@ -2,16 +2,11 @@
 -- the rows are as they were.
 -- Assumes nothing.
 use mathlib.Core.Bool.{true}
-use mathlib.Core.Path.{◌≡◌, refl, sym, ◌∙◌, subst}
+use mathlib.Core.Path.{◌≡◌}
 use Prim.Native.Nat.{◌-◌, ◌≤◌, ◌<◌}
-use native.Mathlib.Omega.{arith}
-use lib.Dec.{T}
-use Rattle.units.specs.Limits.{most_nodes}
 use Rattle.service.specs.Tables.{served}
 use Rattle.search_layers.specs.Bridge.{network_of}
 use Rattle.search_layers.specs.Words.{Tried}
-use Rattle.search_layers.proofs.FillCode.{older_kept}
-use Rattle.search_layers.proofs.TriedCode.{tried_none, tried_more, tried_nodes, still_lower}
 use Rattle.search_layers.proofs.trying.try_all.Given as goal
 
 abbrev pub invariant-loop-tried : goal.invariant-loop-tried

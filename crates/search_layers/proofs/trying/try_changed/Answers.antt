@@ -1,7 +1,6 @@
 -- `search_layers::trying::try_changed` meets its contract.
 -- Assumes nothing.
 use mathlib.Core.Path.{refl, subst}
-use borrow.Author.Rules.{rules}
 use lib.Dec.{T}
 use Rattle.search_layers.proofs.NetworkLaws.{node_below}
 use Rattle.search_layers.proofs.TriedCode.{tried_skipped}

@@ -1,7 +1,6 @@
 -- `search_layers::trying::try_contact` meets its contract.
 -- Assumes nothing.
 use native.Mathlib.Omega.{arith}
-use borrow.Author.Rules.{rules}
 use Rattle.units.specs.Limits.{most_nodes}
 use Rattle.timing.proofs.ChainCode.{named_at_most}
 use Rattle.search_layers.proofs.ArriveCode.{late_by}

@@ -1,7 +1,6 @@
 -- `service::serving::serve` meets its contract.
 -- Assumes nothing.
 use native.Mathlib.Omega.{arith}
-use borrow.Author.Rules.{rules}
 use Rattle.plan_lists.specs.Model.{slots, most_rows}
 use Rattle.service.proofs.ServingCode.{none_kept}
 use Rattle.service.proofs.serving.serve.Goals as goal

@@ -1,15 +1,13 @@
 -- `service::serving::serve_along` meets its contract. The loop's invariant: the words beside the rows so far say their light times and their volumes, and what is kept of the
 -- walks along the lists holds.
 -- Assumes nothing.
-use mathlib.Core.Path.{◌≡◌, refl, ◌∙◌}
-use Prim.Native.Nat.{ℕ, ◌-◌, ◌≤◌, ◌<◌}
+use mathlib.Core.Path.{refl, ◌∙◌}
+use Prim.Native.Nat.{◌<◌}
 use native.Mathlib.Omega.{arith}
 use lib.ListN.{length, length-set}
 use Rattle.units.specs.Limits.{most_contacts}
-use Rattle.plan.specs.Tables.{range_at, rows_from}
 use Rattle.plan.proofs.Lent.{contacts_counted}
-use Rattle.plan_light.specs.Model.{Kept}
-use Rattle.service.proofs.ServingCode.{row_good, light_in_range, Beside, beside_more, beside_all}
+use Rattle.service.proofs.ServingCode.{row_good, light_in_range, beside_more, beside_all}
 use Rattle.service.proofs.serving.serve_along.Goals as goal
 
 pub loop-k-init : goal.loop-k-init

@@ -1,15 +1,12 @@
 -- `service::serving::serve_along` meets its contract. The loop's invariant: the words beside the rows so far say their light times and their volumes, and what is kept of the
 -- walks along the lists holds.
 -- Assumes nothing.
-use mathlib.Core.Path.{◌≡◌, refl, ◌∙◌}
+use mathlib.Core.Path.{◌≡◌}
 use Prim.Native.Nat.{ℕ, ◌-◌, ◌≤◌, ◌<◌}
-use native.Mathlib.Omega.{arith}
-use lib.ListN.{length, length-set}
-use Rattle.units.specs.Limits.{most_contacts}
+use lib.ListN.{length}
 use Rattle.plan.specs.Tables.{range_at, rows_from}
-use Rattle.plan.proofs.Lent.{contacts_counted}
 use Rattle.plan_light.specs.Model.{Kept}
-use Rattle.service.proofs.ServingCode.{row_good, light_in_range, Beside, beside_more, beside_all}
+use Rattle.service.proofs.ServingCode.{Beside}
 use Rattle.service.proofs.serving.serve_along.Given as goal
 
 abbrev pub invariant-loop-k : goal.invariant-loop-k

@@ -1,6 +1,5 @@
 -- `service::serving::serve_in` meets its contract.
 -- Assumes nothing.
-use borrow.Author.Rules.{rules}
 use Rattle.plan.proofs.Verdicts.{true_holds}
 use Rattle.service.proofs.ServingCode.{ranges_linkable, ranges_listed, kept_none}
 use Rattle.service.proofs.serving.serve_in.Goals as goal

@@ -1,7 +1,6 @@
 -- `service::serving::volume_of` meets its contract.
 -- Assumes nothing.
 use mathlib.Core.Path.{refl}
-use borrow.Author.Rules.{rules}
 use Rattle.service.specs.Service.{volume}
 use Rattle.service.proofs.ServingCode.{volume_room}
 use Rattle.service.proofs.serving.volume_of.Goals as goal

@@ -1,6 +1,5 @@
 -- `service::serving::word_of` meets its contract.
 -- Assumes nothing.
-use borrow.Author.Rules.{rules}
 use Rattle.service.specs.Tables.{unranged}
 use Rattle.service.proofs.ServingCode.{word_fits, ranged_word, unranged_word}
 use Rattle.service.proofs.serving.word_of.Goals as goal

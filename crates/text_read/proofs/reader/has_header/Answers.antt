@@ -1,8 +1,7 @@
 -- `text_read::reader::has_header` meets its contract.
 -- Assumes nothing.
-use borrow.Author.Rules.{rules}
 use Rattle.text.specs.Rows.{header}
-use Rattle.text_read.proofs.CallCode.{header_short, header_whole}
+use Rattle.text_read.proofs.CallCode.{header_short}
 use Rattle.text_read.proofs.reader.has_header.Goals as goal
 
 pub returns-then-text-lt-HEADER : goal.returns-then-text-lt-HEADER

@@ -1,7 +1,5 @@
 -- `text_read::reader::read` meets its contract.
 -- Assumes nothing.
-use borrow.Author.Tests.{not-true, not-false}
-use borrow.Author.Rules.{rules}
 use Rattle.units.specs.Limits.{most_contacts, most_ranges, most_text}
 use Rattle.text.specs.Calls.{few_contacts, few_ranges, refused}
 use Rattle.text.specs.Reading.{too_long}

@@ -1,8 +1,7 @@
 -- `text_read::reader::read_through` meets its contract.
 -- Assumes nothing.
-use Prim.Native.Nat.{◌-◌, ◌*◌, ◌≤◌}
+use Prim.Native.Nat.{◌*◌, ◌≤◌}
 use native.Mathlib.Omega.{arith}
-use borrow.Author.Rules.{rules}
 use lib.ListN.{length}
 use Rattle.units.specs.Limits.{most_contacts, most_ranges}
 use Rattle.text_read.proofs.CallCode.{gives_rows, copied_rows, copied_refused}
@@ -23,7 +22,7 @@ unfolding most_contacts most_ranges
 copy_words-requires c =
     let t = gives_rows _ _ _ _ c.read_lines.ensures _ _ c.in-Rows.is in
     let pre = c.requires in
-    (omega (arith, t.0, pre.0, c.read_lines.kept.1.0), omega (arith, t.0, pre.2))
+    (omega (arith, t.0, pre.0, c.read_lines.auto.contacts), omega (arith, t.0, pre.2))
 
 pub overflow_mul-n : goal.overflow_mul-n
 unfolding most_contacts most_ranges
@@ -36,22 +35,7 @@ unfolding most_contacts most_ranges
 copy_words-requires-in-Rows c =
     let t = gives_rows _ _ _ _ c.read_lines.ensures _ _ c.in-Rows.is in
     let pre = c.requires in
-    (omega (arith, t.1, pre.1, c.read_lines.kept.1.1.0), omega (arith, t.1, pre.3))
-
-pub shape_of-passes-in-Rows : goal.shape_of-passes-in-Rows
-shape_of-passes-in-Rows c =
-    c.read_lines.kept.1.0
-
-pub shape_of-lights-in-Rows : goal.shape_of-lights-in-Rows
-shape_of-lights-in-Rows c =
-    c.read_lines.kept.1.1.0
-
-pub shape_of-contacts : goal.shape_of-contacts
-shape_of-contacts c =
-    c.copy_words.kept.1.0
-
-pub shape_of-ranges : goal.shape_of-ranges
-shape_of-ranges c = c.copy_words-in-Rows.kept.1.0
+    (omega (arith, t.1, pre.1, c.read_lines.auto.ranges), omega (arith, t.1, pre.3))
 
 pub returns-in-Rows : goal.returns-in-Rows
 unfolding most_contacts most_ranges
@@ -60,20 +44,12 @@ returns-in-Rows c =
     let m = c.in-Rows.m in
     let n = c.in-Rows.n in
     let read = c.read_lines in
-    let hp : m * 5 ≤ length read.last.1.0 = omega (arith, t.0, c.requires.0, read.kept.1.0) in
-    let hl : n * 5 ≤ length read.last.1.1.0 = omega (arith, t.1, c.requires.1, read.kept.1.1.0) in
+    let hp : m * 5 ≤ length read.new.contacts = omega (arith, t.0, c.requires.0, read.auto.contacts) in
+    let hl : n * 5 ≤ length read.new.ranges = omega (arith, t.1, c.requires.1, read.auto.ranges) in
     let hc : m * 5 ≤ length c.args.contacts.now = omega (arith, t.0, c.requires.2) in
     let hr : n * 5 ≤ length c.args.ranges.now = omega (arith, t.1, c.requires.3) in
-    copied_rows _ read.last.1.0 read.last.1.1.0 _ read.ensures c.args.contacts.now c.args.ranges.now m n
+    copied_rows _ read.new.contacts read.new.ranges _ read.ensures c.args.contacts.now c.args.ranges.now m n
     c.in-Rows.is hp hl hc hr _ _ c.copy_words.ensures c.copy_words-in-Rows.ensures
-
-pub shape_of-passes-in-Refused : goal.shape_of-passes-in-Refused
-shape_of-passes-in-Refused c =
-    c.read_lines.kept.1.0
-
-pub shape_of-lights-in-Refused : goal.shape_of-lights-in-Refused
-shape_of-lights-in-Refused c =
-    c.read_lines.kept.1.1.0
 
 pub returns-in-Refused : goal.returns-in-Refused
 returns-in-Refused c =

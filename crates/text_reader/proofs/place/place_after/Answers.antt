@@ -1,7 +1,6 @@
 -- `text_reader::place::place_after` meets its contract: the line ends at the latest where the text does, so there is a number behind its end.
 -- Assumes nothing.
 use native.Mathlib.Omega.{arith}
-use borrow.Author.Rules.{rules}
 use Rattle.text_reader.proofs.StepCode.{line_end_lem}
 use Rattle.text_reader.proofs.place.place_after.Goals as goal
 

@@ -1,7 +1,6 @@
 -- `text_reader::step::answer` meets its contract.
 -- Assumes nothing.
 use mathlib.Core.Path.{sym, ap}
-use borrow.Author.Rules.{rules}
 use Rattle.text_reader.specs.Steps.{answer_of}
 use Rattle.text_reader.proofs.step.answer.Goals as goal
 

@@ -1,7 +1,6 @@
 -- `text_reader::step::counted` meets its contract.
 -- Assumes nothing.
 use mathlib.Core.Path.{sym, ap}
-use borrow.Author.Rules.{rules}
 use Rattle.text.specs.declared.answer.PlanRead.{PlanRead}
 use Rattle.text_reader.specs.Steps.{counted_of}
 use Rattle.text_reader.proofs.step.counted.Goals as goal

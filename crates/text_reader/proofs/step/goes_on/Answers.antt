@@ -1,7 +1,6 @@
 -- `text_reader::step::goes_on` meets its contract.
 -- Assumes nothing.
 use mathlib.Core.Path.{sym, ap}
-use borrow.Author.Rules.{rules}
 use Rattle.text_reader.specs.declared.step.SoFar.{SoFar}
 use Rattle.text_reader.specs.Steps.{goes_on}
 use Rattle.text_reader.proofs.step.goes_on.Goals as goal

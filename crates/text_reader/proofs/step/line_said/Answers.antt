@@ -1,7 +1,6 @@
 -- `text_reader::step::line_said` meets its contract.
 -- Assumes nothing.
 use mathlib.Core.Path.{sym, ◌∙◌}
-use borrow.Author.Rules.{rules}
 use Rattle.text_reader.proofs.StepCode.{line_past, line_within}
 use Rattle.text_reader.proofs.step.line_said.Goals as goal
 

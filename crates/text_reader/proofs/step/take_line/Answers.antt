@@ -1,7 +1,6 @@
 -- `text_reader::step::take_line` meets its contract.
 -- Assumes nothing.
 use native.Mathlib.Omega.{arith}
-use borrow.Author.Rules.{rules}
 use Rattle.text_reader.proofs.StepCode.{sound_counts, line_counted, line_stopped}
 use Rattle.text_reader.proofs.step.take_line.Goals as goal
 

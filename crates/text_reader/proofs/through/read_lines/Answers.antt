@@ -1,6 +1,5 @@
 -- `text_reader::through::read_lines` meets its contract.
 -- Assumes nothing.
-use borrow.Author.Rules.{rules}
 use Rattle.text_reader.proofs.StepCode.{body_gives}
 use Rattle.text_reader.proofs.through.read_lines.Goals as goal
 

@@ -1,10 +1,6 @@
 -- `text_write::length::digits` meets its contract. The loop's invariant: the digits counted, less one, and those of v are all.
 -- Assumes nothing.
-use mathlib.Core.Path.{◌≡◌}
-use Prim.Native.Nat.{◌+◌}
 use native.Mathlib.Omega.{arith}
-use lib.ListN.{length}
-use Rattle.text.specs.Digits.{decimal}
 use Rattle.text_write.proofs.LengthCode.{digits_goes, digits_ends, digits_counted, digits_few}
 use Rattle.text_write.proofs.length.digits.Goals as goal
 

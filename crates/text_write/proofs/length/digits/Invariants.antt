@@ -2,10 +2,8 @@
 -- Assumes nothing.
 use mathlib.Core.Path.{◌≡◌}
 use Prim.Native.Nat.{◌+◌}
-use native.Mathlib.Omega.{arith}
 use lib.ListN.{length}
 use Rattle.text.specs.Digits.{decimal}
-use Rattle.text_write.proofs.LengthCode.{digits_goes, digits_ends, digits_counted, digits_few}
 use Rattle.text_write.proofs.length.digits.Given as goal
 
 abbrev pub invariant-loop-v : goal.invariant-loop-v

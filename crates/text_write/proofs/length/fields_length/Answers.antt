@@ -1,11 +1,7 @@
 -- `text_write::length::fields_length` meets its contract. The loop's invariant: the sum and the length of the fields still to come are the whole length.
 -- Assumes nothing.
-use mathlib.Core.Path.{◌≡◌, refl}
-use Prim.Native.Nat.{◌+◌, ◌-◌, ◌*◌, ◌≤◌}
+use mathlib.Core.Path.{refl}
 use native.Mathlib.Omega.{arith}
-use borrow.Author.Rules.{rules}
-use lib.ListN.{length}
-use Rattle.text_write.specs.Model.{field_bytes}
 use Rattle.text_write.proofs.LengthCode.{fields_all, sum_field, sum_fields_end}
 use Rattle.text_write.proofs.length.fields_length.Goals as goal
 

@@ -1,10 +1,6 @@
 -- `text_write::length::rows_length` meets its contract. The loop's invariant: the sum and the length of the lines still to come are the whole length.
 -- Assumes nothing.
-use mathlib.Core.Path.{◌≡◌}
-use Prim.Native.Nat.{◌+◌, ◌-◌, ◌*◌, ◌≤◌}
 use native.Mathlib.Omega.{arith}
-use lib.ListN.{length}
-use Rattle.text_write.specs.Model.{row_bytes}
 use Rattle.text_write.proofs.LengthCode.{rows_every, sum_line, sum_lines_end}
 use Rattle.text_write.proofs.length.rows_length.Goals as goal
 

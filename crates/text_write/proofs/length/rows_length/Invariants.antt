@@ -2,10 +2,8 @@
 -- Assumes nothing.
 use mathlib.Core.Path.{◌≡◌}
 use Prim.Native.Nat.{◌+◌, ◌-◌, ◌*◌, ◌≤◌}
-use native.Mathlib.Omega.{arith}
 use lib.ListN.{length}
 use Rattle.text_write.specs.Model.{row_bytes}
-use Rattle.text_write.proofs.LengthCode.{rows_every, sum_line, sum_lines_end}
 use Rattle.text_write.proofs.length.rows_length.Given as goal
 
 abbrev pub invariant-loop-k : goal.invariant-loop-k

@@ -1,7 +1,6 @@
 -- `text_write::length::text_length` meets its contract.
 -- Assumes nothing.
 use native.Mathlib.Omega.{arith}
-use borrow.Author.Rules.{rules}
 use Rattle.units.specs.Limits.{most_contacts, most_ranges}
 use Rattle.text.specs.Rows.{contact_word, range_word}
 use Rattle.text_write.proofs.LengthCode.{text_counted}

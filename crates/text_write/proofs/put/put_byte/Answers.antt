@@ -1,6 +1,5 @@
 -- `text_write::put::put_byte` meets its contract.
 -- Assumes nothing.
-use borrow.Author.Rules.{rules}
 use Rattle.text_write.proofs.PutCode.{wrote_byte}
 use Rattle.text_write.proofs.put.put_byte.Goals as goal
 

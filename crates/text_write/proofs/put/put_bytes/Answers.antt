@@ -1,9 +1,7 @@
 -- `text_write::put::put_bytes` meets its contract. The loop's invariant: the bytes from place i on, written behind, complete them all.
 -- Assumes nothing.
-use Prim.Native.Nat.{◌+◌, ◌-◌, ◌≤◌}
 use native.Mathlib.Omega.{arith}
-use lib.ListN.{length, drop}
-use Rattle.text_write.proofs.PutCode.{Onward, bytes_start, byte_room, bytes_goes, bytes_end}
+use Rattle.text_write.proofs.PutCode.{bytes_start, byte_room, bytes_goes, bytes_end}
 use Rattle.text_write.proofs.put.put_bytes.Goals as goal
 
 pub loop-i-init : goal.loop-i-init

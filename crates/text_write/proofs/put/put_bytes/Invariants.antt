@@ -1,9 +1,8 @@
 -- `text_write::put::put_bytes` meets its contract. The loop's invariant: the bytes from place i on, written behind, complete them all.
 -- Assumes nothing.
 use Prim.Native.Nat.{◌+◌, ◌-◌, ◌≤◌}
-use native.Mathlib.Omega.{arith}
 use lib.ListN.{length, drop}
-use Rattle.text_write.proofs.PutCode.{Onward, bytes_start, byte_room, bytes_goes, bytes_end}
+use Rattle.text_write.proofs.PutCode.{Onward}
 use Rattle.text_write.proofs.put.put_bytes.Given as goal
 
 abbrev pub invariant-loop-i : goal.invariant-loop-i

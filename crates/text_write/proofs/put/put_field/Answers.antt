@@ -1,7 +1,6 @@
 -- `text_write::put::put_field` meets its contract.
 -- Assumes nothing.
 use mathlib.Core.List.{[], ◌∷◌}
-use borrow.Author.Rules.{rules}
 use Rattle.text.specs.Lines.{tab}
 use Rattle.text_write.proofs.PutCode.{wrote_then}
 use Rattle.text_write.proofs.put.put_field.Goals as goal

@@ -1,11 +1,8 @@
 -- `text_write::put::put_fields` meets its contract. The loop's invariant: the fields from place i on, written behind, complete them all.
 -- Assumes nothing.
-use mathlib.Core.Path.{◌≡◌, refl}
-use Prim.Native.Nat.{◌+◌, ◌-◌, ◌≤◌}
+use mathlib.Core.Path.{refl}
 use native.Mathlib.Omega.{arith}
-use borrow.Author.Rules.{rules}
-use Rattle.text_write.specs.Model.{field_bytes}
-use Rattle.text_write.proofs.PutCode.{Onward, fields_start, field_room, field_goes, fields_end}
+use Rattle.text_write.proofs.PutCode.{fields_start, field_room, field_goes, fields_end}
 use Rattle.text_write.proofs.put.put_fields.Goals as goal
 
 pub overflow_add-end : goal.overflow_add-end
@@ -37,12 +34,9 @@ loop-i-preserved c =
       omega (arith, inv.0),
       omega (arith, test),
       inv.2,
-      field_goes _ _ _ _ _ _ _ _ test inv.3 _ _ c.put_field-next.auto.0
+      field_goes _ _ _ _ _ _ _ _ test inv.3 _ _ c.put_field-next.auto.out
           c.put_field-next.ensures,
     )
-
-pub shape_of-out : goal.shape_of-out
-shape_of-out c = c.loop-i.invariant.3.same_length
 
 pub returns : goal.returns
 returns c = fields_end _ _ _ _ _ _ _ _ c.loop-i-test.false c.loop-i.invariant.3

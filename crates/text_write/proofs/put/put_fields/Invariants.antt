@@ -1,11 +1,9 @@
 -- `text_write::put::put_fields` meets its contract. The loop's invariant: the fields from place i on, written behind, complete them all.
 -- Assumes nothing.
-use mathlib.Core.Path.{◌≡◌, refl}
+use mathlib.Core.Path.{◌≡◌}
 use Prim.Native.Nat.{◌+◌, ◌-◌, ◌≤◌}
-use native.Mathlib.Omega.{arith}
-use borrow.Author.Rules.{rules}
 use Rattle.text_write.specs.Model.{field_bytes}
-use Rattle.text_write.proofs.PutCode.{Onward, fields_start, field_room, field_goes, fields_end}
+use Rattle.text_write.proofs.PutCode.{Onward}
 use Rattle.text_write.proofs.put.put_fields.Given as goal
 
 abbrev pub invariant-loop-i : goal.invariant-loop-i

@@ -1,9 +1,7 @@
 -- `text_write::put::put_rows` meets its contract. The loop's invariant: the lines from row k on, written behind, complete them all.
 -- Assumes nothing.
-use Prim.Native.Nat.{◌-◌, ◌≤◌}
 use native.Mathlib.Omega.{arith}
-use Rattle.text_write.specs.Model.{row_bytes}
-use Rattle.text_write.proofs.PutCode.{Onward, lines_start, line_room, line_goes, lines_end}
+use Rattle.text_write.proofs.PutCode.{lines_start, line_room, line_goes, lines_end}
 use Rattle.text_write.proofs.put.put_rows.Goals as goal
 
 pub loop-k-init : goal.loop-k-init
@@ -29,7 +27,7 @@ pub loop-k-preserved : goal.loop-k-preserved
 loop-k-preserved c =
     let test = c.loop-k-test.true in (
       omega (arith, test),
-      line_goes _ _ _ _ _ _ _ _ _ test c.loop-k.invariant.1 _ _ c.put_line-next.auto.0
+      line_goes _ _ _ _ _ _ _ _ _ test c.loop-k.invariant.1 _ _ c.put_line-next.auto.out
           c.put_line-next.ensures,
     )
 

@@ -1,9 +1,8 @@
 -- `text_write::put::put_rows` meets its contract. The loop's invariant: the lines from row k on, written behind, complete them all.
 -- Assumes nothing.
 use Prim.Native.Nat.{◌-◌, ◌≤◌}
-use native.Mathlib.Omega.{arith}
 use Rattle.text_write.specs.Model.{row_bytes}
-use Rattle.text_write.proofs.PutCode.{Onward, lines_start, line_room, line_goes, lines_end}
+use Rattle.text_write.proofs.PutCode.{Onward}
 use Rattle.text_write.proofs.put.put_rows.Given as goal
 
 abbrev pub invariant-loop-k : goal.invariant-loop-k

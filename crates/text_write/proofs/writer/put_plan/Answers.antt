@@ -1,6 +1,5 @@
 -- `text_write::writer::put_plan` meets its contract.
 -- Assumes nothing.
-use borrow.Author.Rules.{rules}
 use Rattle.text.specs.Rows.{header, contact_word, range_word}
 use Rattle.text_write.proofs.WriteCode.{plan_header_room, plan_first_room, plan_second_room, plan_whole}
 use Rattle.text_write.proofs.writer.put_plan.Goals as goal
@@ -14,7 +13,7 @@ unfolding header contact_word range_word
 put_rows-second-requires c = (
   c.requires.0,
   plan_first_room c.args.out.now c.args.contacts.now c.args.m c.args.ranges.now c.args.n
-      c.requires.2 _ _ c.put_bytes-first.kept.0 c.put_bytes-first.ensures,
+      c.requires.2 _ _ c.put_bytes-first.auto.out c.put_bytes-first.ensures,
 )
 
 pub put_rows-requires : goal.put_rows-requires
@@ -22,7 +21,7 @@ unfolding header contact_word range_word
 put_rows-requires c = (
   c.requires.1,
   plan_second_room c.args.out.now c.args.contacts.now c.args.m c.args.ranges.now
-      c.args.n c.requires.2 _ _ c.put_bytes-first.kept.0 c.put_bytes-first.ensures _ _ c.put_rows-second.kept.0
+      c.args.n c.requires.2 _ _ c.put_bytes-first.auto.out c.put_bytes-first.ensures _ _ c.put_rows-second.auto.out
       c.put_rows-second.ensures,
 )
 
@@ -30,5 +29,5 @@ pub returns : goal.returns
 unfolding header contact_word range_word
 returns c =
     plan_whole c.args.out.now c.args.contacts.now c.args.m c.args.ranges.now c.args.n
-    c.requires.2 _ _ c.put_bytes-first.kept.0 c.put_bytes-first.ensures _ _ c.put_rows-second.kept.0
+    c.requires.2 _ _ c.put_bytes-first.auto.out c.put_bytes-first.ensures _ _ c.put_rows-second.auto.out
     c.put_rows-second.ensures _ _ c.put_rows.ensures

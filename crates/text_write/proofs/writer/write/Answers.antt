@@ -2,8 +2,6 @@
 -- Assumes nothing.
 use mathlib.Core.Path.{subst}
 use Prim.Native.Nat.{ℕ, ◌≤◌}
-use borrow.Author.Tests.{not-true, not-false}
-use borrow.Author.Rules.{rules}
 use lib.ListN.{length}
 use Rattle.plan.proofs.Lent.{contacts_counted, ranges_counted}
 use Rattle.plan.proofs.Verdicts.{true_holds, false_fails}

@@ -1,14 +1,11 @@
 -- `timing::chain::delivery` meets its contract.
 -- Assumes nothing.
-use mathlib.Core.Path.{◌≡◌, refl, sym, ap, ◌∙◌}
+use mathlib.Core.Path.{◌≡◌}
 use Prim.Native.Nat.{◌+◌, ◌-◌, ◌≤◌}
-use native.Mathlib.Omega.{arith}
-use borrow.Author.Rules.{rules}
 use lib.ListN.{length, drop}
 use Rattle.units.specs.Limits.{last_time, most_light}
 use Rattle.service.specs.Tables.{served}
 use Rattle.timing.specs.Model.{carry, delivery_of}
-use Rattle.timing.proofs.ChainCode.{named_at_most, steps_in_plan, step_bounded, carry_stops, carry_ends, carry_misses, carry_lent}
 use Rattle.timing.proofs.chain.delivery.Given as goal
 
 abbrev pub invariant-loop-i : goal.invariant-loop-i

@@ -1,8 +1,6 @@
 -- `timing::chain::goes_on` meets its contract.
 -- Assumes nothing.
 use mathlib.Core.Path.{sym, subst}
-use native.Mathlib.Omega.{arith}
-use borrow.Author.Rules.{rules}
 use Rattle.plan.specs.Plan.{GoodContact}
 use Rattle.timing.proofs.ChainCode.{named_in_plan, named_good, goes_not_least, goes_not_most, goes_by}
 use Rattle.timing.proofs.chain.goes_on.Goals as goal

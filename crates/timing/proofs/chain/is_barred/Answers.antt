@@ -1,6 +1,5 @@
 -- `timing::chain::is_barred` meets its contract.
 -- Assumes nothing.
-use borrow.Author.Rules.{rules}
 use Rattle.timing.specs.Hop.{is_barred}
 use Rattle.timing.proofs.chain.is_barred.Goals as goal
 

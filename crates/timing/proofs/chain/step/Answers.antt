@@ -1,7 +1,6 @@
 -- `timing::chain::step` meets its contract.
 -- Assumes nothing.
 use mathlib.Core.Path.{sym, ◌∙◌}
-use borrow.Author.Rules.{rules}
 use Rattle.timing.proofs.ChainCode.{goes_in_plan, step_goes, step_stays}
 use Rattle.timing.proofs.chain.step.Goals as goal
 

@@ -1,6 +1,5 @@
 -- `timing::hop::back` meets its contract.
 -- Assumes nothing.
-use borrow.Author.Rules.{rules}
 use Rattle.timing.specs.Model.{back_over}
 use Rattle.timing.proofs.hop.back.Goals as goal
 

@@ -2,7 +2,6 @@
 -- Assumes nothing.
 use mathlib.Core.Path.{refl}
 use native.Mathlib.Omega.{arith}
-use borrow.Author.Rules.{rules}
 use Rattle.units.specs.Limits.{last_time, most_light}
 use Rattle.timing.proofs.HopCode.{back_none, back_short, back_some}
 use Rattle.timing.proofs.Rounding.{sent_most}

@@ -1,7 +1,6 @@
 -- `timing::hop::done_at` meets its contract.
 -- Assumes nothing.
 use native.Mathlib.Omega.{arith}
-use borrow.Author.Rules.{rules}
 use Rattle.units.specs.Limits.{last_time, most_light}
 use Rattle.timing.proofs.Rounding.{sent_most}
 use Rattle.timing.proofs.hop.done_at.Goals as goal

@@ -1,6 +1,5 @@
 -- `timing::hop::hop_over` meets its contract.
 -- Assumes nothing.
-use borrow.Author.Rules.{rules}
 use Rattle.timing.specs.Hop.{hopped}
 use Rattle.timing.proofs.hop.hop_over.Goals as goal
 

@@ -2,7 +2,6 @@
 -- Assumes nothing.
 use mathlib.Core.Path.{refl}
 use native.Mathlib.Omega.{arith}
-use borrow.Author.Rules.{rules}
 use Rattle.units.specs.Limits.{last_time, most_light}
 use Rattle.timing.proofs.HopCode.{hop_fits, hop_late, hop_short}
 use Rattle.timing.proofs.hop.hop_ranged.Goals as goal

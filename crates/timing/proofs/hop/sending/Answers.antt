@@ -1,7 +1,6 @@
 -- `timing::hop::sending` meets its contract.
 -- Assumes nothing.
 use native.Mathlib.Omega.{arith}
-use borrow.Author.Rules.{rules}
 use Rattle.units.specs.Limits.{most_rate}
 use Rattle.timing.specs.Hop.{sent}
 use Rattle.timing.proofs.Rounding.{consumed_most}

@@ -1,9 +1,7 @@
 -- `walk::last_call::limit_part` meets its contract.
 use Rattle.plan.specs.Plan.{Each}
 use Rattle.walk.proofs.LastCallCode.{limit_none, limit_fewer, each_take}
-use mathlib.Core.Path.{sym}
 use lib.ListN.{length, length-take}
-use lib.Seq.{length-take-le}
 use native.Mathlib.Omega.{arith}
 use Prim.Native.Nat.{◌-◌}
 use Rattle.walk.proofs.last_call.+limit_part.Goals as goal

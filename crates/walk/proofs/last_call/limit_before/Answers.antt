@@ -1,14 +1,11 @@
 -- `walk::last_call::limit_before` meets its contract.
 -- Assumes nothing.
-use mathlib.Core.Path.{◌≡◌, sym, ◌∙◌}
+use mathlib.Core.Path.{sym, ◌∙◌}
 use Prim.Native.Nat.{◌-◌, ◌≤◌}
 use native.Mathlib.Omega.{arith}
-use borrow.Author.Rules.{rules}
-use lib.ListN.{length, take, drop, length-take}
+use lib.ListN.{take, drop, length-take}
 use lib.Seq.{take-length}
 use Rattle.units.specs.Limits.{most_chain}
-use Rattle.service.specs.Tables.{served}
-use Rattle.walk.specs.Model.{limit_before}
 use Rattle.walk.proofs.LastCallCode.{limit_none, limit_parts, each_take, each_drop}
 use Rattle.walk.proofs.last_call.limit_before.Goals as goal
 

@@ -1,6 +1,5 @@
 -- `walk::room::is_before` meets its contract.
 -- Assumes nothing.
-use borrow.Author.Rules.{rules}
 use Rattle.walk.proofs.room.is_before.Goals as goal
 
 pub returns-in-Ready : goal.returns-in-Ready

@@ -1,8 +1,6 @@
 -- `walk::room::is_carried` meets its contract.
 -- Assumes nothing.
 use mathlib.Core.Path.{ap, ◌∙◌}
-use Prim.Native.Nat.{ℕ}
-use borrow.Author.Rules.{rules}
 use Rattle.timing.specs.declared.arrival.Arrival.{Arrival}
 use Rattle.walk.specs.Model.{is_before, carries_size}
 use Rattle.walk.proofs.room.is_carried.Goals as goal

@@ -1,9 +1,7 @@
 -- `walk::room::raise` meets its contract.
 -- Assumes nothing.
 use mathlib.Core.Path.{sym, ◌∙◌}
-use Prim.Native.Nat.{◌+◌}
 use native.Mathlib.Omega.{arith}
-use borrow.Author.Rules.{rules}
 use borrow.Author.Tests.{le-leb, lt-leb}
 use Rattle.units.specs.Limits.{most_size}
 use Rattle.walk.proofs.room.raise.Goals as goal

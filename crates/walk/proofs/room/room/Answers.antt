@@ -1,12 +1,9 @@
 -- `walk::room::room` meets its contract.
 -- Assumes nothing.
-use mathlib.Core.Path.{◌≡◌, refl, sym, ◌∙◌, subst}
-use Prim.Native.Nat.{ℕ, ◌-◌, ◌^◌, ◌≤◌}
+use mathlib.Core.Path.{refl, sym, ◌∙◌, subst}
+use Prim.Native.Nat.{ℕ, ◌^◌, ◌≤◌}
 use native.Mathlib.Omega.{arith}
-use borrow.Author.Rules.{rules}
 use Rattle.units.specs.Limits.{most_size}
-use Rattle.service.specs.Tables.{served}
-use Rattle.walk.specs.Model.{room_from, room_of}
 use Rattle.walk.proofs.RoomCode.{halved, bit_most, raised_most, room_begins, room_goes, room_ends}
 use Rattle.walk.proofs.room.room.Goals as goal
 

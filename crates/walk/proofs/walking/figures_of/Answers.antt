@@ -1,6 +1,5 @@
 -- `walk::walking::figures_of` meets its contract.
 -- Assumes nothing.
-use borrow.Author.Rules.{rules}
 use Rattle.walk.proofs.WalkCode.{figures_by}
 use Rattle.walk.proofs.walking.figures_of.Goals as goal
 

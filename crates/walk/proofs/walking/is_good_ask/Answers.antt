@@ -1,6 +1,5 @@
 -- `walk::walking::is_good_ask` meets its contract.
 -- Assumes nothing.
-use borrow.Author.Rules.{rules}
 use Rattle.units.specs.Limits.{last_time, most_size}
 use Rattle.walk.proofs.walking.is_good_ask.Goals as goal
 

@@ -1,7 +1,6 @@
 -- `walk::walking::opens` meets its contract.
 -- Assumes nothing.
 use native.Mathlib.Omega.{arith}
-use borrow.Author.Rules.{rules}
 use Rattle.plan.specs.Plan.{Each}
 use Rattle.timing.proofs.ChainCode.{named_at_most}
 use Rattle.walk.proofs.WalkCode.{opens_lent}

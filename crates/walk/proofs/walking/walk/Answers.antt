@@ -1,8 +1,6 @@
 -- `walk::walking::walk` meets its contract.
 -- Assumes nothing.
 use mathlib.Core.Path.{sym, ◌∙◌, subst}
-use borrow.Author.Rules.{rules}
-use borrow.Author.Tests.{not-true, not-false, eqb-true, eqb-false}
 use Rattle.plan.proofs.Verdicts.{true_holds, false_fails}
 use Rattle.walk.specs.Walk.{WalksPlan, no_plan, bad_ask, same_node, walked}
 use Rattle.service.specs.Service.{unused}

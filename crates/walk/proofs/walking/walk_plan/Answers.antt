@@ -1,7 +1,6 @@
 -- `walk::walking::walk_plan` meets its contract.
 -- Assumes nothing.
 use native.Mathlib.Omega.{arith}
-use borrow.Author.Rules.{rules}
 use Rattle.units.specs.Limits.{most_contacts}
 use Rattle.walk.proofs.walking.walk_plan.Goals as goal
 

@@ -1,7 +1,6 @@
 -- `walk::walking::walk_served` meets its contract.
 -- Assumes nothing.
 use mathlib.Core.Path.{sym, ◌∙◌}
-use borrow.Author.Rules.{rules}
 use Rattle.timing.proofs.ChainLaws.{allowed_delivery}
 use Rattle.walk.proofs.LastCallCode.{carries_named}
 use Rattle.walk.proofs.WalkCode.{walk_never, walk_late, walk_carries}

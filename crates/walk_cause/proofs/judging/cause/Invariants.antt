@@ -1,15 +1,11 @@
 -- `walk_cause::judging::cause` meets its contract.
 -- Assumes nothing.
-use mathlib.Core.Path.{◌≡◌, refl, sym, ◌∙◌}
+use mathlib.Core.Path.{◌≡◌}
 use Prim.Native.Nat.{◌+◌, ◌-◌, ◌≤◌}
-use native.Mathlib.Omega.{arith}
-use borrow.Author.Rules.{rules}
 use lib.ListN.{length, drop}
 use Rattle.units.specs.Limits.{last_time, most_light}
 use Rattle.service.specs.Tables.{served}
-use Rattle.timing.proofs.ChainCode.{named_at_most}
 use Rattle.walk_cause.specs.Model.{cause_from, cause_of}
-use Rattle.walk_cause.proofs.CauseCode.{judged_in_plan, judged_bounded, cause_stops, cause_ends, cause_lent}
 use Rattle.walk_cause.proofs.judging.cause.Given as goal
 
 abbrev pub invariant-loop-i : goal.invariant-loop-i

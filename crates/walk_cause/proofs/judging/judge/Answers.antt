@@ -1,7 +1,5 @@
 -- `walk_cause::judging::judge` meets its contract.
 -- Assumes nothing.
-use borrow.Author.Rules.{rules}
-use borrow.Author.Tests.{not-true, not-false}
 use Rattle.walk_cause.proofs.CauseCode.{is_in_plan, not_named, judged_named_lem}
 use Rattle.walk_cause.proofs.judging.judge.Goals as goal
 

@@ -2,7 +2,6 @@
 -- Assumes nothing.
 use mathlib.Core.Path.{sym, subst}
 use native.Mathlib.Omega.{arith}
-use borrow.Author.Rules.{rules}
 use Rattle.plan.specs.Plan.{GoodContact}
 use Rattle.timing.proofs.ChainCode.{named_at_most, named_good}
 use Rattle.walk_cause.proofs.CauseCode.{named_apart, named_barred, named_hops}

@@ -1,0 +1,6 @@
+-- The number falls to its tenth from call to call.
+-- Assumes nothing.
+use Rattle.text_write.proofs.put.+put_number.Given as goal
+
+abbrev pub decreases-put_number : goal.decreases-put_number
+decreases-put_number l = l.n
