@@ -88,10 +88,7 @@ fn walked(
     requires { count ≤ length words.now }
 {
     let from = least(ASK, count);
-    show::walked(
-        rt,
-        walk(contacts, m, ranges, n, ask, &words[from..count]),
-    )
+    show::walked(rt, walk(contacts, m, ranges, n, ask, &words[from..count]))
 }
 
 // So many places are lent.

@@ -45,11 +45,7 @@ fn next_line(from: &mut impl Read, line: &mut [u8]) -> io::Result<Next>
 }
 
 // Every line, each read into `line`: one that is longer is taken in parts.
-pub fn all(
-    rt: &(impl Print + Input),
-    line: &mut [u8],
-    tables: &mut [u64],
-) -> io::Result<()>
+pub fn all(rt: &(impl Print + Input), line: &mut [u8], tables: &mut [u64]) -> io::Result<()>
     requires { length tables.old ≡ 5130 }
 {
     let mut from = rt.reader();

@@ -68,12 +68,7 @@ fn case(
 }
 
 // One line: the sizes of the tables after it.
-pub fn step(
-    rt: &impl Print,
-    line: &[u8],
-    tables: &mut [u64],
-    sizes: Sizes,
-) -> io::Result<Sizes>
+pub fn step(rt: &impl Print, line: &[u8], tables: &mut [u64], sizes: Sizes) -> io::Result<Sizes>
     requires { length tables.old ≡ 5130 }
 {
     let first = field(line, 0);

@@ -57,12 +57,7 @@ pub fn put(
 }
 
 // The sizes with the two counts behind the tab at `from`.
-pub fn counted(
-    rt: &impl Print,
-    line: &[u8],
-    from: usize,
-    sizes: Sizes,
-) -> io::Result<Sizes>
+pub fn counted(rt: &impl Print, line: &[u8], from: usize, sizes: Sizes) -> io::Result<Sizes>
     requires { from ≤ length line.now }
 {
     let mut counts = [0u64; 2];

@@ -51,12 +51,7 @@ pub fn line_there(printed: Receipt) -> u64
 }
 
 // Prints the line of a refusal with this number and place.
-pub fn print_refusal(
-    rt: &impl Print,
-    number: u64,
-    place: u64,
-    line: &[u8],
-) -> io::Result<Receipt>
+pub fn print_refusal(rt: &impl Print, number: u64, place: u64, line: &[u8]) -> io::Result<Receipt>
     requires { line.now ≡ glue_line (line_of refused_word (number ∷ place ∷ [])) }
     ensures { IfOk result (λ r. (r.refused ≡ number) × (r.place ≡ place)) }
 {

@@ -9,7 +9,7 @@ use Rattle.cases.proofs.answering.light.Goals as goal
 
 pub serve-requires : goal.serve-requires
 unfolding most_contacts
-serve-requires c =
+serve-requires g c =
     let plan = true_holds c.is_plan.ensures c.if-is_plan.true in
     let few = contacts_counted _ _ _ _ plan in
     (plan, omega (arith, few), omega (arith, few))

@@ -8,7 +8,7 @@ use borrow.Author.Rules.{rules}
 use Rattle.cases.proofs.input.all.Given as goal
 
 abbrev pub invariant-loop-passed : goal.invariant-loop-passed
-invariant-loop-passed l = (length l.line ≡ length l.initial.line) × (length l.tables ≡ length l.initial.tables)
+invariant-loop-passed g l = (length l.line ≡ length l.initial.line) × (length l.tables ≡ length l.initial.tables)
 
 abbrev pub decreases-loop-passed : goal.decreases-loop-passed
-decreases-loop-passed l = 1000000 - l.passed
+decreases-loop-passed g l = 1000000 - l.passed

@@ -8,7 +8,7 @@ use borrow.Author.Rules.{rules}
 use Rattle.cases.proofs.input.next_line.Given as goal
 
 abbrev pub invariant-loop-n : goal.invariant-loop-n
-invariant-loop-n l = (l.n ≤ length l.line) × (length l.line ≡ length l.initial.line)
+invariant-loop-n g l = (l.n ≤ length l.line) × (length l.line ≡ length l.initial.line)
 
 abbrev pub decreases-loop-n : goal.decreases-loop-n
-decreases-loop-n l = length l.line - l.n
+decreases-loop-n g l = length l.line - l.n

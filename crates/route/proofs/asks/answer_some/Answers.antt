@@ -21,6 +21,6 @@ print_answers-requires g c =
 pub returns : goal.returns
 returns g c =
     IfOk-weaker c.print_answers.result _ _
-        (λ after printed. further_from c.args.printed c.answer_lines-reached.ensures c.printed_to-at.ensures
-            c.line_there-line.ensures c.requires.0 c.requires.2 after c.requires.1 c.requires.3 printed.0 printed.1 printed.2)
-        c.print_answers.ensures
+    (λ after printed. further_from c.args.printed c.answer_lines-reached.ensures c.printed_to-at.ensures
+    c.line_there-line.ensures c.requires.0 c.requires.2 after c.requires.1 c.requires.3 printed.0 printed.1 printed.2)
+    c.print_answers.ensures

@@ -8,7 +8,7 @@ use borrow.Author.Rules.{rules}
 use Rattle.text_cases.proofs.input.all.Given as goal
 
 abbrev pub invariant-loop-read : goal.invariant-loop-read
-invariant-loop-read l = length l.text ≡ length l.initial.text
+invariant-loop-read g l = length l.text ≡ length l.initial.text
 
 abbrev pub decreases-loop-read : goal.decreases-loop-read
-decreases-loop-read l = 4096 - l.read
+decreases-loop-read g l = 4096 - l.read

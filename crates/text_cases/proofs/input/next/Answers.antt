@@ -7,4 +7,4 @@ use borrow.Author.Rules.{rules}
 use Rattle.text_cases.proofs.input.next.Goals as goal
 
 pub slice_bounds-fill-end-2 : goal.slice_bounds-fill-end-2
-slice_bounds-fill-end-2 c = sym (length-take-le _ _ c.if-text-n.false)
+slice_bounds-fill-end-2 g c = sym (length-take-le _ _ c.if-text-n.false)
