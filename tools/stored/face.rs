@@ -1,12 +1,9 @@
 //! The names by which the program `text_cases` calls the library, answered by the
 //! second program: tools/stored/run builds the program over it.
 
-use std::io::{stdin, stdout, Read, Write};
+use std::io::{stdin, stdout, Read, Result, Write};
 
 pub use second::Refusal;
-
-pub const STDIN_FILENO: i32 = 0;
-pub const STDOUT_FILENO: i32 = 1;
 
 pub fn number(why: Refusal) -> u64 {
     why.number
@@ -42,26 +39,32 @@ pub fn write(contacts: &[u64], m: usize, ranges: &[u64], n: usize, out: &mut [u8
     }
 }
 
-pub fn same(one: &[u8], other: &[u8]) -> bool {
-    one == other
+/// What the program is started with.
+pub struct HostRuntime;
+
+pub trait Print {
+    fn write_all(&self, bytes: &[u8]) -> Result<()>;
 }
 
-pub fn write_all(_: i32, bytes: &[u8]) {
-    stdout().write_all(bytes).expect("output is taken");
-}
-
-pub fn print_decimal(file: i32, number: u64) {
-    write_all(file, number.to_string().as_bytes());
-}
-
-/// Standard input as far as it goes or has room; how many bytes that are.
-pub fn read_full(_: i32, bytes: &mut [u8]) -> usize {
-    let mut filled = 0;
-    while filled < bytes.len() {
-        match stdin().read(&mut bytes[filled..]).expect("input is given") {
-            0 => break,
-            more => filled += more,
-        }
+impl Print for HostRuntime {
+    fn write_all(&self, bytes: &[u8]) -> Result<()> {
+        stdout().write_all(bytes)
     }
-    filled
+}
+
+pub trait Input {
+    fn reader(&self) -> impl Read;
+}
+
+impl Input for HostRuntime {
+    fn reader(&self) -> impl Read {
+        stdin()
+    }
+}
+
+#[macro_export]
+macro_rules! print {
+    ($rt:expr; $($said:tt)*) => {
+        $crate::Print::write_all($rt, format!($($said)*).as_bytes())
+    };
 }

@@ -1,5 +1,5 @@
 // The public calls as C functions, for flight software in C or Rust: numbers and slices only. A slice is a
-// pointer and a length. include/oivarnum.h declares the functions for C.
+// pointer and a length. `board_c` exports them in a static archive, and include/oivarnum.h declares them for C.
 
 #![tactic(auto)]
 

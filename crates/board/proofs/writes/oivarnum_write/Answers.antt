@@ -17,4 +17,4 @@ put_written-requires c = omega arith
 pub returns : goal.returns
 unfolding answer_words
 returns c =
-    called (omega arith) c.write-w.ensures c.Put-written.ensures
+    called (omega arith) c.write-w.ensures c.put_written.ensures
