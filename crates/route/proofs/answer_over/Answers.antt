@@ -1,6 +1,5 @@
 -- `route::answer_over` meets its contract.
 -- Assumes nothing.
-use borrow.Author.Rules.{rules}
 use Rattle.std.proofs.lemmas.Result.{IfOk-weaker}
 use Rattle.route.specs.Receipts.{no_plan, over_plan}
 use Rattle.route.proofs.answer_over.Goals as goal

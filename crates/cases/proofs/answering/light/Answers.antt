@@ -1,7 +1,6 @@
 -- `cases::answering::light` meets its contract.
 -- Assumes nothing.
 use native.Mathlib.Omega.{arith}
-use borrow.Author.Rules.{rules}
 use Rattle.units.specs.Limits.{most_contacts}
 use Rattle.plan.proofs.Lent.{contacts_counted}
 use Rattle.plan.proofs.Verdicts.{true_holds}

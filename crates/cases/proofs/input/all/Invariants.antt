@@ -3,8 +3,6 @@
 use mathlib.Core.Path.{◌≡◌}
 use Prim.Native.Nat.{◌-◌}
 use lib.ListN.{length}
-use native.Mathlib.Omega.{arith}
-use borrow.Author.Rules.{rules}
 use Rattle.cases.proofs.input.all.Given as goal
 
 abbrev pub invariant-loop-passed : goal.invariant-loop-passed

@@ -1,12 +1,9 @@
 -- `route::asks::answer_each` meets its contract. The loop's invariant: the parts printed so far are the answers from the first line on.
 -- Assumes nothing.
-use mathlib.Core.Path.{◌≡◌, refl}
-use Prim.Native.Nat.{◌-◌, ◌<◌}
-use native.Mathlib.Omega.{arith}
+use mathlib.Core.Path.{◌≡◌}
+use Prim.Native.Nat.{◌-◌}
 use lib.ListN.{length}
-use borrow.Author.Rules.{rules}
-use Rattle.route.specs.Receipts.{to_its_end}
-use Rattle.route.proofs.AsksCode.{SoFar, none_yet, joined, line_most}
+use Rattle.route.proofs.AsksCode.{SoFar}
 use Rattle.route.proofs.asks.answer_each.Given as goal
 
 abbrev pub invariant-loop-out : goal.invariant-loop-out

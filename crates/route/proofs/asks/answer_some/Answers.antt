@@ -2,7 +2,6 @@
 -- Assumes nothing.
 use mathlib.Core.Path.{sym}
 use lib.Seq.{length-take-le}
-use borrow.Author.Rules.{rules}
 use Rattle.std.proofs.lemmas.Result.{IfOk-weaker}
 use Rattle.route.proofs.AsksCode.{used_within, part_from, further_from}
 use Rattle.route.proofs.asks.answer_some.Goals as goal

@@ -1,10 +1,7 @@
 -- `route::refusing::refuse` meets its contract: 305 bytes have room for the line of any refusal.
 -- Assumes nothing.
-use mathlib.Core.Path.{sym}
 use native.Mathlib.Omega.{arith}
-use lib.Seq.{length-take-le}
-use borrow.Author.Rules.{rules}
-use Rattle.route.proofs.RefusingCode.{refused_within, refused_line, refused_fits}
+use Rattle.route.proofs.RefusingCode.{refused_line, refused_fits}
 use Rattle.route.proofs.refusing.refuse.Goals as goal
 
 pub print_refusal-requires : goal.print_refusal-requires

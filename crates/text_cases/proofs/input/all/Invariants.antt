@@ -1,10 +1,8 @@
 -- `text_cases::input::all` is safe and ends.
 -- Assumes nothing.
-use mathlib.Core.Path.{◌≡◌, refl, ◌∙◌}
+use mathlib.Core.Path.{◌≡◌}
 use Prim.Native.Nat.{◌-◌}
 use lib.ListN.{length}
-use native.Mathlib.Omega.{arith}
-use borrow.Author.Rules.{rules}
 use Rattle.text_cases.proofs.input.all.Given as goal
 
 abbrev pub invariant-loop-read : goal.invariant-loop-read

@@ -2,8 +2,6 @@
 -- Assumes nothing.
 use mathlib.Core.Path.{sym}
 use lib.Seq.{length-take-le}
-use native.Mathlib.Omega.{arith}
-use borrow.Author.Rules.{rules}
 use Rattle.text_cases.proofs.input.next.Goals as goal
 
 pub slice_bounds-fill-end-2 : goal.slice_bounds-fill-end-2
