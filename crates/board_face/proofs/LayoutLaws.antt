@@ -5,9 +5,7 @@
 use mathlib.Core.List.{List, [], ◌∷◌}
 use mathlib.Core.Path.{◌≡◌, refl, sym, ap}
 use Prim.Native.Nat.{ℕ}
-use native.Mathlib.Omega.{arith}
 use Rattle.units.specs.declared.Refusal.{Refusal}
-use Rattle.units.specs.Refusals.{number_of, place_of}
 use Rattle.units.proofs.RefusalLaws.{refusal_determined, refusal_numbered}
 use Rattle.text.specs.declared.answer.PlanRead.{PlanRead}
 use Rattle.text.specs.declared.answer.PlanRead.TheVariants.{Rows, Refused as NotRead}

@@ -8,7 +8,6 @@ use Prim.Native.Nat.{ℕ, ◌+◌, ◌-◌, ◌*◌, ◌≤◌}
 use native.Mathlib.Omega.{arith}
 use lib.ListN.{length, get_or, set}
 use lib.Seq.{get_or-set_same, get_or-set_other}
-use Rattle.units.specs.Limits.{most_places}
 use Rattle.book.specs.Tables.{place_words, free_mark, mark_at, IsBook}
 use Rattle.book.proofs.PlaceLaws.{place_there}
 use Rattle.book_keeping.specs.Keeping.{freed}

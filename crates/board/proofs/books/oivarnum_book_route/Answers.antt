@@ -1,7 +1,6 @@
 -- `board::books::oivarnum_book_route` meets its contract.
 -- Assumes nothing.
 use native.Mathlib.Omega.{arith}
-use borrow.Author.Rules.{rules}
 use Rattle.board.specs.Booked.{no_room, called}
 use Rattle.board_face.specs.Layout.{booked_words}
 use Rattle.board.proofs.books.oivarnum_book_route.Goals as goal

@@ -1,7 +1,6 @@
 -- `board::reads::oivarnum_read` meets its contract.
 -- Assumes nothing.
 use native.Mathlib.Omega.{arith}
-use borrow.Author.Rules.{rules}
 use Rattle.board.specs.Faces.{no_room, called}
 use Rattle.board_face.specs.Layout.{answer_words}
 use Rattle.board.proofs.reads.oivarnum_read.Goals as goal

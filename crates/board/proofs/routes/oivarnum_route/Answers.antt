@@ -1,7 +1,6 @@
 -- `board::routes::oivarnum_route` meets its contract.
 -- Assumes nothing.
 use native.Mathlib.Omega.{arith}
-use borrow.Author.Rules.{rules}
 use Rattle.board.specs.Faces.{no_room, called}
 use Rattle.board_face.specs.Layout.{answer_words}
 use Rattle.board.proofs.routes.oivarnum_route.Goals as goal

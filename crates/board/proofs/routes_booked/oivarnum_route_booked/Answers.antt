@@ -1,7 +1,6 @@
 -- `board::routes_booked::oivarnum_route_booked` meets its contract.
 -- Assumes nothing.
 use native.Mathlib.Omega.{arith}
-use borrow.Author.Rules.{rules}
 use Rattle.board.specs.Booked.{no_room, called}
 use Rattle.board_face.specs.Layout.{answer_words}
 use Rattle.board.proofs.routes_booked.oivarnum_route_booked.Goals as goal

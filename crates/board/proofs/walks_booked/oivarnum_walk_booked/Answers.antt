@@ -1,7 +1,6 @@
 -- `board::walks_booked::oivarnum_walk_booked` meets its contract.
 -- Assumes nothing.
 use native.Mathlib.Omega.{arith}
-use borrow.Author.Rules.{rules}
 use Rattle.board.specs.Booked.{no_room, called}
 use Rattle.board_face.specs.Layout.{answer_words}
 use Rattle.board.proofs.walks_booked.oivarnum_walk_booked.Goals as goal

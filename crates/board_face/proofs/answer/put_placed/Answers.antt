@@ -2,7 +2,6 @@
 -- Assumes nothing.
 use mathlib.Core.Path.{sym, ap}
 use native.Mathlib.Omega.{arith}
-use borrow.Author.Rules.{rules}
 use Rattle.board_face.specs.Layout.{answer_words, booked_words, placed_words}
 use Rattle.board_face.proofs.AnswerCode.{answered_as}
 use Rattle.board_face.proofs.answer.put_placed.Goals as goal

@@ -4,7 +4,6 @@ use mathlib.Core.List.{[], ◌∷◌}
 use mathlib.Core.Path.{ap₂}
 use Prim.Native.Nat.{ℕ}
 use native.Mathlib.Omega.{arith}
-use borrow.Author.Rules.{rules}
 use Rattle.board_face.specs.Layout.{answer_words}
 use Rattle.board_face.proofs.AnswerCode.{answered_as}
 use Rattle.board_face.proofs.answer.put_refusal.Goals as goal

@@ -1,6 +1,5 @@
 -- `board_face::answer::put_words` meets its contract.
 -- Assumes nothing.
-use borrow.Author.Rules.{rules}
 use Rattle.board_face.proofs.AnswerCode.{answered_whole}
 use Rattle.board_face.proofs.answer.put_words.Goals as goal
 

@@ -2,8 +2,6 @@
 -- Assumes nothing.
 use mathlib.Core.Path.{sym, ◌∙◌}
 use native.Mathlib.Omega.{arith}
-use borrow.Author.Rules.{rules}
-use borrow.Author.Tests.{not-true, not-false}
 use Rattle.units.specs.Limits.{most_class}
 use Rattle.plan.proofs.Verdicts.{true_holds, false_fails}
 use Rattle.walk.proofs.WalkCode.{good_ask_tells}

@@ -1,7 +1,6 @@
 -- `calls::routes::route_booked` meets its contract.
 -- Assumes nothing.
 use mathlib.Core.Path.{sym, subst₂}
-use borrow.Author.Rules.{rules}
 use Rattle.units.specs.Limits.{most_chain}
 use Rattle.service.proofs.ServiceLaws.{service_sound}
 use Rattle.search.specs.Route.{RoutesPlan}

@@ -1,7 +1,6 @@
 -- `calls::routes::route_good` meets its contract.
 -- Assumes nothing.
 use native.Mathlib.Omega.{arith}
-use borrow.Author.Rules.{rules}
 use Rattle.units.specs.Limits.{most_contacts}
 use Rattle.calls.proofs.routes.route_good.Goals as goal
 

@@ -1,7 +1,6 @@
 -- `calls::routes::route_through` meets its contract.
 -- Assumes nothing.
 use native.Mathlib.Omega.{arith}
-use borrow.Author.Rules.{rules}
 use Rattle.plan.proofs.Lent.{contacts_counted}
 use Rattle.service.proofs.ServiceLaws.{is_service}
 use Rattle.search.proofs.RouteCode.{route_serves}

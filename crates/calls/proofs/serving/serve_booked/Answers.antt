@@ -2,7 +2,6 @@
 -- Assumes nothing.
 use mathlib.Core.Path.{◌∙◌}
 use native.Mathlib.Omega.{arith}
-use borrow.Author.Rules.{rules}
 use Rattle.plan.proofs.Lent.{contacts_counted}
 use Rattle.service.proofs.SpendLaws.{spent_serves}
 use Rattle.book.specs.Book.{used}

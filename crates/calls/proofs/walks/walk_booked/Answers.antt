@@ -1,11 +1,9 @@
 -- `calls::walks::walk_booked` meets its contract.
 -- Assumes nothing.
 use mathlib.Core.Path.{sym, subst}
-use borrow.Author.Rules.{rules}
 use Rattle.service.proofs.ServiceLaws.{service_sound}
 use Rattle.walk.specs.Walk.{WalksPlan}
 use Rattle.walk.proofs.Theorems.{walk_model_walks}
-use Rattle.calls.specs.Booked.{all_good}
 use Rattle.calls.specs.Calls.{stopped, walked}
 use Rattle.calls.proofs.BookingLaws.{checked_good}
 use Rattle.calls.proofs.walks.walk_booked.Goals as goal

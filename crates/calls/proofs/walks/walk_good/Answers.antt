@@ -1,7 +1,6 @@
 -- `calls::walks::walk_good` meets its contract.
 -- Assumes nothing.
 use native.Mathlib.Omega.{arith}
-use borrow.Author.Rules.{rules}
 use Rattle.units.specs.Limits.{most_contacts}
 use Rattle.calls.proofs.walks.walk_good.Goals as goal
 

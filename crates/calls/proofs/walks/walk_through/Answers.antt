@@ -1,7 +1,6 @@
 -- `calls::walks::walk_through` meets its contract.
 -- Assumes nothing.
 use native.Mathlib.Omega.{arith}
-use borrow.Author.Rules.{rules}
 use Rattle.plan.proofs.Lent.{contacts_counted}
 use Rattle.service.proofs.ServiceLaws.{is_service}
 use Rattle.walk.proofs.WalkCode.{walk_serves}

@@ -2,8 +2,7 @@
 -- Assumes nothing.
 use mathlib.Core.Path.{sym, ◌∙◌}
 use native.Mathlib.Omega.{arith}
-use borrow.Author.Rules.{rules}
-use borrow.Author.Tests.{not-true, not-false, eqb-true, eqb-false}
+use borrow.Author.Tests.{eqb-true, eqb-false}
 use Rattle.units.specs.Limits.{most_places}
 use Rattle.plan.proofs.Verdicts.{true_holds, false_fails}
 use Rattle.book.proofs.PlaceLaws.{place_there}

@@ -1,7 +1,6 @@
 -- `calls_book::reserving::book_at` meets its contract.
 -- Assumes nothing.
 use native.Mathlib.Omega.{arith}
-use borrow.Author.Rules.{rules}
 use Rattle.units.specs.Limits.{most_places}
 use Rattle.calls_book.proofs.PlacingCode.{bookable, refused_route, placed_route}
 use Rattle.calls_book.proofs.reserving.book_at.Goals as goal

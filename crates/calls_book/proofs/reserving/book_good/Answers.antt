@@ -1,6 +1,5 @@
 -- `calls_book::reserving::book_good` meets its contract.
 -- Assumes nothing.
-use borrow.Author.Rules.{rules}
 use Rattle.units.specs.Limits.{most_places}
 use Rattle.book_keeping.proofs.CallLaws.{place_lowest, place_none}
 use Rattle.calls_book.specs.Model.{RefusedFor}

@@ -1,6 +1,5 @@
 -- `calls_book::reserving::book_route` meets its contract.
 -- Assumes nothing.
-use borrow.Author.Rules.{rules}
 use Rattle.units.specs.Limits.{most_chain}
 use Rattle.calls.specs.Calls as Route
 use Rattle.calls.proofs.BookingLaws.{checked_good}

@@ -1,7 +1,6 @@
 -- `calls_book::reserving::refuse_full` meets its contract.
 -- Assumes nothing.
 use native.Mathlib.Omega.{arith}
-use borrow.Author.Rules.{rules}
 use Rattle.units.specs.Limits.{most_chain}
 use Rattle.calls_book.proofs.PlacingCode.{refuse_any, full_any}
 use Rattle.calls_book.proofs.reserving.refuse_full.Goals as goal
