@@ -1,5 +1,5 @@
 // The input, a buffer at a time: as many lines answered as the buffer has room for, and printed.
-ghost use Rattle.std.specs.Prelude.{◌≤◌, ◌<◌, length, IfOk};
+ghost use Rattle.std.specs.Prelude.{◌≤◌, ◌<◌, length};
 ghost use Rattle.units.specs.Limits.{most_text};
 ghost use Rattle.desk.specs.Through.{longest};
 ghost use Rattle.route.specs.Receipts.{Further, InputDone, ReadDone};
@@ -8,7 +8,6 @@ use crate::output::{Receipt, line_there, none_printed, print_answers, printed_to
 use crate::reading::read_full;
 use crate::refusing::refuse;
 use desk::answer_lines;
-use std::io;
 use units::{MOST_TEXT, Refusal};
 
 // One byte more than the input may have, so that a longer one is seen to be too long.
@@ -26,9 +25,9 @@ fn answer_some(
     input: &[u8],
     printed: Receipt,
     out: &mut [u8],
-) -> io::Result<Receipt>
+) -> Receipt
     requires { (length input.now ≤ most_text) × (printed.at < length input.now) × (printed.line ≤ most_text) × (longest ≤ length out.old) }
-    ensures { IfOk result (λ r. (printed.at < r.at) × Further contacts.now m ranges.now n input.now printed r) }
+    ensures { (printed.at < result.at) × Further contacts.now m ranges.now n input.now printed result }
 {
     let at = printed_to(printed);
     let line = line_there(printed);
@@ -56,15 +55,15 @@ fn answer_each(
     n: usize,
     input: &[u8],
     out: &mut [u8],
-) -> io::Result<Receipt>
+) -> Receipt
     requires { (length input.now ≤ most_text) × (longest ≤ length out.old) }
-    ensures { IfOk result (λ r. InputDone contacts.now m ranges.now n input.now r) }
+    ensures { InputDone contacts.now m ranges.now n input.now result }
 {
     let mut printed = none_printed();
     while printed_to(printed) < input.len() {
-        printed = answer_some(rt, contacts, m, ranges, n, input, printed, out)?;
+        printed = answer_some(rt, contacts, m, ranges, n, input, printed, out);
     }
-    Ok(printed)
+    printed
 }
 
 // The asks of the input answered, or the input refused where it is too long.
@@ -75,8 +74,8 @@ fn answer_all(
     ranges: &[u64],
     n: usize,
     input: &[u8],
-) -> io::Result<Receipt>
-    ensures { IfOk result (λ r. InputDone contacts.now m ranges.now n input.now r) }
+) -> Receipt
+    ensures { InputDone contacts.now m ranges.now n input.now result }
 {
     if MOST_TEXT < input.len() {
         return refuse(rt, Refusal::LongText);
@@ -92,11 +91,11 @@ pub fn answer_input(
     m: usize,
     ranges: &[u64],
     n: usize,
-) -> io::Result<Receipt>
-    ensures { IfOk result (λ r. ReadDone contacts.now m ranges.now n r) }
+) -> Receipt
+    ensures { ReadDone contacts.now m ranges.now n result }
 {
     let mut input = [0u8; INPUT];
     let mut reader = rt.reader();
-    let length = read_full(&mut reader, &mut input)?;
+    let length = read_full(&mut reader, &mut input);
     answer_all(rt, contacts, m, ranges, n, &input[..length])
 }

@@ -7,14 +7,13 @@ mod output;
 mod reading;
 mod refusing;
 
-ghost use Rattle.std.specs.Prelude.{IfOk};
-ghost use Rattle.std.specs.Io.{ReadsAtMost};
+ghost use Rattle.std.specs.Counts.{IsPrefixLen};
 ghost use Rattle.route.specs.Receipts.{PlanDone};
 
 use output::Receipt;
 use reading::read_full;
+use std::fs;
 use std::rt::Files;
-use std::{fs, io};
 use text::PlanRead;
 use text_read::read;
 use units::MOST_TEXT;
@@ -24,13 +23,13 @@ const TEXT: usize = MOST_TEXT + 1;
 // The words of a full table.
 const FULL: usize = 2_560;
 
-// The bytes of the plan file put at the start of `text`: none where it cannot be opened.
-fn load(rt: &impl Files, text: &mut [u8]) -> io::Result<usize>
-    ensures { ReadsAtMost result text.new }
+// The bytes of the plan file put at the start of `text`: none where it cannot be opened or read.
+fn load(rt: &impl Files, text: &mut [u8]) -> usize
+    ensures { IsPrefixLen result text.new }
 {
     match fs::open(rt, "plan.txt") {
         Ok(mut file) => read_full(&mut file, text),
-        Err(_) => Ok(0),
+        Err(_) => 0,
     }
 }
 
@@ -40,8 +39,8 @@ fn answer_over(
     text: &[u8],
     contacts: &mut [u64],
     ranges: &mut [u64],
-) -> io::Result<Receipt>
-    ensures { IfOk result (λ r. PlanDone text.now contacts.old ranges.old contacts.new ranges.new r) }
+) -> Receipt
+    ensures { PlanDone text.now contacts.old ranges.old contacts.new ranges.new result }
 {
     match read(text, contacts, ranges) {
         PlanRead::Rows(m, n) => asks::answer_input(rt, contacts, m, ranges, n),
@@ -49,11 +48,10 @@ fn answer_over(
     }
 }
 
-fn main(rt: HostRuntime) -> io::Result<()> {
+fn main(rt: HostRuntime) {
     let mut text = [0u8; TEXT];
     let mut contacts = [0u64; FULL];
     let mut ranges = [0u64; FULL];
-    let length = load(&rt, &mut text)?;
-    answer_over(&rt, &text[..length], &mut contacts, &mut ranges)?;
-    Ok(())
+    let length = load(&rt, &mut text);
+    answer_over(&rt, &text[..length], &mut contacts, &mut ranges);
 }

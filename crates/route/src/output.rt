@@ -1,5 +1,5 @@
 // What is printed, and receipts of it that no other module can make: who holds one has had it printed.
-ghost use Rattle.std.specs.Prelude.{[], ◌∷◌, ◌≡◌, IfOk};
+ghost use Rattle.std.specs.Prelude.{[], ◌∷◌, ◌≡◌};
 ghost use Rattle.text.specs.Lines.{glue_line};
 ghost use Rattle.text.specs.Rows.{line_of};
 ghost use Rattle.desk_lines.specs.Through.{AnswersPart};
@@ -7,7 +7,6 @@ ghost use Rattle.desk.specs.Answers.{refused_word};
 ghost use Rattle.desk.specs.Through.{Says};
 
 use desk::Reached;
-use std::io;
 
 // A refusal with this number and place; or, where that number is 0, the answers up to this byte of the
 // input, where the line with this number begins.
@@ -19,9 +18,12 @@ pub struct Receipt {
     line: u64,
 }
 
-// The one place where the program prints.
-fn print(rt: &impl Print, bytes: &[u8]) -> io::Result<()> {
-    rt.write_all(bytes)
+// The one place where the program prints. What becomes of the bytes there is not known.
+fn print(rt: &impl Print, bytes: &[u8]) {
+    match rt.write_all(bytes) {
+        Ok(()) => {}
+        Err(_) => {}
+    }
 }
 
 // Nothing yet.
@@ -51,17 +53,17 @@ pub fn line_there(printed: Receipt) -> u64
 }
 
 // Prints the line of a refusal with this number and place.
-pub fn print_refusal(rt: &impl Print, number: u64, place: u64, line: &[u8]) -> io::Result<Receipt>
+pub fn print_refusal(rt: &impl Print, number: u64, place: u64, line: &[u8]) -> Receipt
     requires { line.now ≡ glue_line (line_of refused_word (number ∷ place ∷ [])) }
-    ensures { IfOk result (λ r. (r.refused ≡ number) × (r.place ≡ place)) }
+    ensures { (result.refused ≡ number) × (result.place ≡ place) }
 {
-    print(rt, line)?;
-    Ok(Receipt {
+    print(rt, line);
+    Receipt {
         refused: number,
         place: place,
         at: 0,
         line: 0,
-    })
+    }
 }
 
 // Prints the answers of the lines from there to the place reached.
@@ -75,15 +77,15 @@ pub fn print_answers(
     printed: Receipt,
     reached: Reached,
     answers: &[u8],
-) -> io::Result<Receipt>
+) -> Receipt
     requires { AnswersPart (Says contacts.now m ranges.now n) input.now tt printed.at printed.line tt reached.at reached.number answers.now }
-    ensures { IfOk result (λ r. (r.refused ≡ 0) × (r.at ≡ reached.at) × (r.line ≡ reached.number)) }
+    ensures { (result.refused ≡ 0) × (result.at ≡ reached.at) × (result.line ≡ reached.number) }
 {
-    print(rt, answers)?;
-    Ok(Receipt {
+    print(rt, answers);
+    Receipt {
         refused: 0,
         place: 0,
         at: reached.at,
         line: reached.number,
-    })
+    }
 }

@@ -2,15 +2,13 @@
 -- Assumes nothing.
 use native.Mathlib.Omega.{arith}
 use borrow.Author.Rules.{rules}
-use Rattle.std.proofs.lemmas.Result.{IfOk-weaker}
 use Rattle.units.specs.Limits.{most_text}
 use Rattle.route.specs.Receipts.{too_long}
 use Rattle.route.proofs.asks.answer_all.Goals as goal
 
 pub returns-then-input-gt-MOST_TEXT : goal.returns-then-input-gt-MOST_TEXT
 unfolding most_text
-returns-then-input-gt-MOST_TEXT g c =
-    IfOk-weaker c.refuse.result _ _ (λ _ told. too_long (omega arith) told) c.refuse.ensures
+returns-then-input-gt-MOST_TEXT g c = too_long (omega arith) c.refuse.ensures
 
 pub answer_each-requires : goal.answer_each-requires
 unfolding most_text

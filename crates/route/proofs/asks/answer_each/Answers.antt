@@ -12,8 +12,8 @@ use Rattle.route.proofs.asks.answer_each.Goals as goal
 pub loop-out-init : goal.loop-out-init
 loop-out-init g c = let none = c.none_printed-printed.ensures in (none_yet _ _ _ _ _ none.0 none.1 none.2, refl)
 
-pub answer_some-requires : goal.answer_some-requires
-answer_some-requires g c =
+pub answer_some-printed-requires : goal.answer_some-printed-requires
+answer_some-printed-requires g c =
     let inside : c.loop-out.printed.at < length c.args.input.now =
     omega (arith, c.loop-out-test.true, c.printed_to.ensures)
     in (
@@ -24,12 +24,12 @@ answer_some-requires g c =
     )
 
 pub loop-out-smaller : goal.loop-out-smaller
-loop-out-smaller g c = omega (arith, c.in_ok-printed.ensures.0, c.loop-out-test.true, c.printed_to.ensures)
+loop-out-smaller g c = omega (arith, c.answer_some-printed.ensures.0, c.loop-out-test.true, c.printed_to.ensures)
 
 pub loop-out-preserved : goal.loop-out-preserved
 loop-out-preserved g c =
     let inv = c.loop-out.invariant in
-    (joined _ _ _ _ _ inv.0 c.in_ok-printed.ensures.1, search rules)
+    (joined _ _ _ _ _ inv.0 c.answer_some-printed.ensures.1, search rules)
 
 pub shape_of-out : goal.shape_of-out
 shape_of-out g c = c.loop-out.invariant.1

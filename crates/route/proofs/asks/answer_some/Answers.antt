@@ -2,7 +2,6 @@
 -- Assumes nothing.
 use mathlib.Core.Path.{sym}
 use lib.Seq.{length-take-le}
-use Rattle.std.proofs.lemmas.Result.{IfOk-weaker}
 use Rattle.route.proofs.AsksCode.{used_within, part_from, further_from}
 use Rattle.route.proofs.asks.answer_some.Goals as goal
 
@@ -19,7 +18,6 @@ print_answers-requires g c =
 
 pub returns : goal.returns
 returns g c =
-    IfOk-weaker c.print_answers.result _ _
-    (λ after printed. further_from c.args.printed c.answer_lines-reached.ensures c.printed_to-at.ensures
-    c.line_there-line.ensures c.requires.0 c.requires.2 after c.requires.1 c.requires.3 printed.0 printed.1 printed.2)
-    c.print_answers.ensures
+    let printed = c.print_answers.ensures in
+    further_from c.args.printed c.answer_lines-reached.ensures c.printed_to-at.ensures c.line_there-line.ensures c.requires.0 c.requires.2
+    c.print_answers.result c.requires.1 c.requires.3 printed.0 printed.1 printed.2
