@@ -32,7 +32,7 @@ loop-k-smaller c = omega arith
 pub loop-k-preserved : goal.loop-k-preserved
 unfolding most_places
 loop-k-preserved c =
-    (omega arith, below_more _ _ c.loop-k.invariant.1 (λ e. c.if-mark_of-eq-FREE.false (c.mark_of.ensures ∙ e)))
+    (omega arith, below_more _ _ c.loop-k.invariant.1 (λ e. omega (arith, c.mark_of.ensures, e)))
 
 pub returns : goal.returns
 unfolding most_places AllOpen

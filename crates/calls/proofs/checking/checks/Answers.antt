@@ -42,7 +42,7 @@ returns-then-ask c =
     same_node (true_holds c.is_plan.ensures c.if-not-is_plan.false)
     (true_holds c.is_book.ensures c.if-not-is_book.false)
     (true_holds (good_ask_tells _) (sym c.is_good_ask.ensures ∙ c.if-not-is_good_ask.false))
-    (record { least = c.if-class-lt1.false; most = c.if-class-gt-MOST_CLASS.false }) c.if-ask.true
+    (record { least = omega arith; most = c.if-class-gt-MOST_CLASS.false }) c.if-ask.true
 
 pub returns : goal.returns
 unfolding most_class
@@ -52,6 +52,6 @@ returns c =
       plan = true_holds c.is_plan.ensures c.if-not-is_plan.false;
       its_book = true_holds c.is_book.ensures c.if-not-is_book.false;
       ask_is_good = true_holds (good_ask_tells _) (sym c.is_good_ask.ensures ∙ c.if-not-is_good_ask.false);
-      good_class = record { least = c.if-class-lt1.false; most = c.if-class-gt-MOST_CLASS.false };
+      good_class = record { least = omega arith; most = c.if-class-gt-MOST_CLASS.false };
       differ = c.if-ask.false;
     })
