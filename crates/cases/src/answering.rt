@@ -5,7 +5,6 @@ use crate::tables::least;
 use crate::words::{LIGHT, MILLION, PLACES, ROUTE, VALID, WALK};
 use crate::{chains, show};
 use plan_valid::is_plan;
-use std::io;
 use units::{Ask, ContactNo, MOST_CONTACTS, Millis, NodeNo};
 use walk::walk;
 
@@ -54,23 +53,16 @@ fn contact_no(n: u64) -> ContactNo
     ContactNo(n)
 }
 
-fn light(
-    rt: &impl Print,
-    contacts: &[u64],
-    m: usize,
-    ranges: &[u64],
-    n: usize,
-    no: ContactNo,
-) -> io::Result<()>
+fn light(rt: &impl Print, contacts: &[u64], m: usize, ranges: &[u64], n: usize, no: ContactNo)
     requires { (1 ≤ no.0) × (no.0 ≤ 512) }
 {
     if is_plan(contacts, m, ranges, n) {
         let mut lights = [0u32; MOST_CONTACTS];
         let mut lefts = [0u64; MOST_CONTACTS];
         service::serve(contacts, m, ranges, n, &mut lights, &mut lefts);
-        show::light(rt, service::light_numbered(&lights, no))
+        show::light(rt, service::light_numbered(&lights, no));
     } else {
-        show::verdict(rt, false)
+        show::verdict(rt, false);
     }
 }
 
@@ -84,11 +76,11 @@ fn walked(
     ask: Ask,
     words: &[u64],
     count: usize,
-) -> io::Result<()>
+)
     requires { count ≤ length words.now }
 {
     let from = least(ASK, count);
-    show::walked(rt, walk(contacts, m, ranges, n, ask, &words[from..count]))
+    show::walked(rt, walk(contacts, m, ranges, n, ask, &words[from..count]));
 }
 
 // So many places are lent.
@@ -101,7 +93,7 @@ fn routed(
     ask: Ask,
     lent: u64,
     shown: bool,
-) -> io::Result<()> {
+) {
     let places = least(lent as usize, MOST_LENT);
     let mut chain = [0u64; MOST_LENT];
     chains::routed(
@@ -113,7 +105,7 @@ fn routed(
         ask,
         &mut chain[0..places],
         shown,
-    )
+    );
 }
 
 // The answer of a case, and the line's end.
@@ -126,7 +118,7 @@ pub fn answer(
     n: usize,
     words: &[u64; MOST],
     count: usize,
-) -> io::Result<()>
+)
     requires { count ≤ 70 }
 {
     let ask = ask_of(words);

@@ -1,7 +1,6 @@
 // Chains that are lent: their places are filled before the call.
 use crate::show;
 use search::route;
-use std::io;
 use units::Ask;
 use walk::walk;
 
@@ -34,10 +33,10 @@ pub fn routed(
     ask: Ask,
     chain: &mut [u64],
     shown: bool,
-) -> io::Result<()> {
+) {
     fill(chain, false);
     let answer = route(contacts, m, ranges, n, ask, chain);
-    show::routed(rt, answer, chain, shown)
+    show::routed(rt, answer, chain, shown);
 }
 
 // An even number of contacts to and fro leads back to the source, so the last one goes on.
@@ -49,22 +48,15 @@ fn million_lent(
     n: usize,
     ask: Ask,
     chain: &mut [u64; MILLION],
-) -> io::Result<()> {
+) {
     fill(chain, true);
     chain[MILLION - 1] = 3;
-    show::walked(rt, walk(contacts, m, ranges, n, ask, chain))
+    show::walked(rt, walk(contacts, m, ranges, n, ask, chain));
 }
 
 // The figures of a chain of a million contacts: the stack of `walk` does not grow with it. The array nearly
 // fills the usual stack of 8 MB. It is lent whole, so that nothing computes its length.
-pub fn million(
-    rt: &impl Print,
-    contacts: &[u64],
-    m: usize,
-    ranges: &[u64],
-    n: usize,
-    ask: Ask,
-) -> io::Result<()> {
+pub fn million(rt: &impl Print, contacts: &[u64], m: usize, ranges: &[u64], n: usize, ask: Ask) {
     let mut chain = [0u64; MILLION];
-    million_lent(rt, contacts, m, ranges, n, ask, &mut chain)
+    million_lent(rt, contacts, m, ranges, n, ask, &mut chain);
 }

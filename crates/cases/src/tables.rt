@@ -3,7 +3,6 @@ ghost use Rattle.std.specs.Prelude.{◌≡◌, ◌≤◌, length};
 
 use crate::show::bad;
 use crate::words::fields;
-use std::io;
 use text_lines::numbers;
 
 // The words of a table: a row more than a plan can have.
@@ -41,7 +40,7 @@ pub fn put(
     tables: &mut [u64],
     base: usize,
     words: usize,
-) -> io::Result<usize>
+) -> usize
     requires { (from ≤ length line.now) × (length tables.old ≡ 5130) × (base ≤ 2565) }
 {
     let before = least(words, HALF);
@@ -49,27 +48,27 @@ pub fn put(
     let start = base + before;
     let end = start + more;
     if numbers(line, from, &mut tables[start..end]) {
-        Ok(before + more)
+        before + more
     } else {
-        bad(rt)?;
-        Ok(before)
+        bad(rt);
+        before
     }
 }
 
 // The sizes with the two counts behind the tab at `from`.
-pub fn counted(rt: &impl Print, line: &[u8], from: usize, sizes: Sizes) -> io::Result<Sizes>
+pub fn counted(rt: &impl Print, line: &[u8], from: usize, sizes: Sizes) -> Sizes
     requires { from ≤ length line.now }
 {
     let mut counts = [0u64; 2];
     if numbers(line, from, &mut counts) {
-        Ok(Sizes {
+        Sizes {
             contact_words: sizes.contact_words,
             contact_rows: counts[0] as usize,
             range_words: sizes.range_words,
             range_rows: counts[1] as usize,
-        })
+        }
     } else {
-        bad(rt)?;
-        Ok(sizes)
+        bad(rt);
+        sizes
     }
 }

@@ -1,9 +1,7 @@
 // The input, text by text.
-ghost use Rattle.std.specs.Prelude.{◌≤◌};
-ghost use Rattle.std.specs.Io.{ReadsAtMost};
+ghost use Rattle.std.specs.Prelude.{◌≤◌, length};
 
 use crate::one::judge;
-use std::io;
 use std::io::Read;
 
 fn wide(b: u8) -> usize
@@ -18,50 +16,59 @@ fn length_of(head: [u8; 4]) -> usize {
     first + wide(head[2]) * 256 + wide(head[3])
 }
 
+// Reads into the part: how many bytes it put at its start. A read that fails counts as the end.
+fn read_some(from: &mut impl Read, part: &mut [u8]) -> usize
+    ensures { result ≤ length part.new }
+{
+    match from.read(part) {
+        Ok(n) => n,
+        Err(_) => 0,
+    }
+}
+
 // Reads until `buf` is full or the reader is at its end: how many bytes it put at the start of `buf`.
-fn read_full(from: &mut impl Read, buf: &mut [u8]) -> io::Result<usize>
-    ensures { ReadsAtMost result buf.new }
+fn read_full(from: &mut impl Read, buf: &mut [u8]) -> usize
+    ensures { result ≤ length buf.new }
 {
     let mut done = 0;
     while done < buf.len() {
-        let n = from.read(&mut buf[done..])?;
+        let n = read_some(from, &mut buf[done..]);
         if n == 0 {
             break;
         }
         done += n;
     }
-    Ok(done)
+    done
 }
 
 // A text read into its bytes, and judged.
-fn fill(rt: &impl Print, from: &mut impl Read, text: &mut [u8]) -> io::Result<()> {
-    read_full(from, text)?;
-    judge(rt, text)
+fn fill(rt: &impl Print, from: &mut impl Read, text: &mut [u8]) {
+    read_full(from, text);
+    judge(rt, text);
 }
 
 // The next text read and judged; false where there is none.
-fn next(rt: &impl Print, from: &mut impl Read, text: &mut [u8]) -> io::Result<bool> {
+fn next(rt: &impl Print, from: &mut impl Read, text: &mut [u8]) -> bool {
     let mut head = [0u8; 4];
-    if read_full(from, &mut head)? < 4 {
-        return Ok(false);
+    if read_full(from, &mut head) < 4 {
+        return false;
     }
     let n = length_of(head);
     if text.len() < n {
-        return Ok(false);
+        return false;
     }
-    fill(rt, from, &mut text[..n])?;
-    Ok(true)
+    fill(rt, from, &mut text[..n]);
+    true
 }
 
 // Every text, 4,096 at the most.
-pub fn all(rt: &(impl Print + Input), text: &mut [u8]) -> io::Result<()> {
+pub fn all(rt: &(impl Print + Input), text: &mut [u8]) {
     let mut from = rt.reader();
     let mut read: usize = 0;
     while read < 4096 {
-        if !next(rt, &mut from, text)? {
-            return Ok(());
+        if !next(rt, &mut from, text) {
+            return;
         }
         read += 1;
     }
-    Ok(())
 }

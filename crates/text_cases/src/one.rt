@@ -1,6 +1,5 @@
 // One text: what `read` answers, whether the lent words after the rows stayed, and whether `write` gives
 // the bytes back.
-use std::io;
 use text::{PlanRead, Written};
 use text_read::read;
 use text_write::write;
@@ -24,22 +23,33 @@ fn is_kept(table: &[u64], n: usize) -> bool {
     true
 }
 
-fn field(rt: &impl Print, n: u64) -> io::Result<()> {
-    print!(rt; "\t{n}")
+// Prints the bytes. A write that fails is dropped.
+fn print(rt: &impl Print, bytes: &[u8]) {
+    match rt.write_all(bytes) {
+        Ok(()) => {}
+        Err(_) => {}
+    }
+}
+
+fn field(rt: &impl Print, n: u64) {
+    match print!(rt; "\t{n}") {
+        Ok(()) => {}
+        Err(_) => {}
+    }
 }
 
 // The line's end, after a word where lent memory changed that must not.
-pub fn end(rt: &impl Print, kept: bool) -> io::Result<()> {
+pub fn end(rt: &impl Print, kept: bool) {
     if !kept {
-        rt.write_all(b"\tchanged")?;
+        print(rt, b"\tchanged");
     }
-    rt.write_all(b"\n")
+    print(rt, b"\n");
 }
 
-fn refused(rt: &impl Print, why: Refusal) -> io::Result<()> {
-    rt.write_all(b"refused")?;
-    field(rt, units::number(why))?;
-    field(rt, units::place(why))
+fn refused(rt: &impl Print, why: Refusal) {
+    print(rt, b"refused");
+    field(rt, units::number(why));
+    field(rt, units::place(why));
 }
 
 // The text written back into `out`: its length, where the bytes are the same.
@@ -51,75 +61,61 @@ fn back_into(
     ranges: &[u64],
     n: usize,
     out: &mut [u8],
-) -> io::Result<()> {
+) {
     match write(contacts, m, ranges, n, out) {
         Written::Length(k) => {
             if k <= out.len() {
                 if &out[..k] == text {
-                    field(rt, k as u64)?;
+                    field(rt, k as u64);
                 }
             }
-            Ok(())
         }
         Written::Refused(why) => refused(rt, why),
     }
 }
 
-fn back(
-    rt: &impl Print,
-    text: &[u8],
-    contacts: &[u64],
-    m: usize,
-    ranges: &[u64],
-    n: usize,
-) -> io::Result<()> {
+fn back(rt: &impl Print, text: &[u8], contacts: &[u64], m: usize, ranges: &[u64], n: usize) {
     let mut out = [0u8; 46_088];
-    back_into(rt, text, contacts, m, ranges, n, &mut out)
+    back_into(rt, text, contacts, m, ranges, n, &mut out);
 }
 
 // The two counts, or the refusal.
-pub fn counts(rt: &impl Print, answer: PlanRead) -> io::Result<()> {
+pub fn counts(rt: &impl Print, answer: PlanRead) {
     match answer {
         PlanRead::Rows(m, n) => {
-            rt.write_all(b"plan")?;
-            field(rt, m as u64)?;
-            field(rt, n as u64)
+            print(rt, b"plan");
+            field(rt, m as u64);
+            field(rt, n as u64);
         }
         PlanRead::Refused(why) => refused(rt, why),
     }
 }
 
 // The length, or the refusal.
-pub fn length(rt: &impl Print, answer: Written) -> io::Result<()> {
+pub fn length(rt: &impl Print, answer: Written) {
     match answer {
         Written::Length(k) => {
-            rt.write_all(b"written")?;
-            field(rt, k as u64)
+            print(rt, b"written");
+            field(rt, k as u64);
         }
         Written::Refused(why) => refused(rt, why),
     }
 }
 
-fn show(
-    rt: &impl Print,
-    text: &[u8],
-    answer: PlanRead,
-    contacts: &[u64],
-    ranges: &[u64],
-) -> io::Result<()> {
-    counts(rt, answer)?;
+fn show(rt: &impl Print, text: &[u8], answer: PlanRead, contacts: &[u64], ranges: &[u64]) {
+    counts(rt, answer);
     match answer {
         PlanRead::Rows(m, n) => {
-            back(rt, text, contacts, m, ranges, n)?;
-            end(rt, is_kept(contacts, m) & is_kept(ranges, n))
+            back(rt, text, contacts, m, ranges, n);
+            end(rt, is_kept(contacts, m) & is_kept(ranges, n));
         }
         PlanRead::Refused(_) => end(rt, is_kept(contacts, 0) & is_kept(ranges, 0)),
     }
 }
 
-pub fn judge(rt: &impl Print, text: &[u8]) -> io::Result<()> {
+pub fn judge(rt: &impl Print, text: &[u8]) {
     let mut contacts = [BLANK; 2560];
     let mut ranges = [BLANK; 2560];
     let answer = read(text, &mut contacts, &mut ranges);
-    show(rt, text, answer, &contacts, &ranges)
+    show(rt, text, answer, &contacts, &ranges);
 }
