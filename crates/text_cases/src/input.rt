@@ -1,5 +1,6 @@
 // The input, text by text.
 ghost use Rattle.std.specs.Prelude.{◌≤◌, length};
+ghost use Rattle.std.specs.Counts.{IsPrefixLen};
 
 use crate::one::judge;
 use std::io::Read;
@@ -28,7 +29,7 @@ fn read_some(from: &mut impl Read, part: &mut [u8]) -> usize
 
 // Reads until `buf` is full or the reader is at its end: how many bytes it put at the start of `buf`.
 fn read_full(from: &mut impl Read, buf: &mut [u8]) -> usize
-    ensures { result ≤ length buf.new }
+    ensures { IsPrefixLen result buf.new }
 {
     let mut done = 0;
     while done < buf.len() {
