@@ -20,7 +20,7 @@ use Rattle.units.specs.Limits.{most_consumption, most_size}
 use Rattle.units.specs.declared.Ask.{Ask}
 use Rattle.units.specs.declared.Millis.{Millis}
 use Rattle.plan.specs.declared.rows.Contact.{Contact}
-use Rattle.plan.specs.declared.light.Light.{Light}
+use Rattle.std.specs.Prelude.{Option, Some, None}
 use Rattle.plan.specs.Plan.{Each}
 use Rattle.plan.specs.Tables.{plan_of}
 use Rattle.plan.proofs.Lent.{length_contacts}
@@ -30,7 +30,6 @@ use Rattle.book.specs.Book.{names, used, Named, GoodBooking}
 use Rattle.book.specs.Tables.{book_of}
 use Rattle.timing.specs.Chain.{Carries, stays, hops}
 use Rattle.timing.specs.Hop.{consumed, hopped}
-use Rattle.timing.specs.declared.arrival.Arrival.TheVariants.{Ready}
 use Rattle.timing.proofs.HopLaws.{Hops, over, hop_told}
 use Rattle.timing.proofs.Rounding.{consumed_form, consumed_most}
 use Rattle.walk.specs.declared.figures.Figures.{Figures}
@@ -52,10 +51,10 @@ in_plan_named contacts m ranges n uses c =
     (λ i. record { least = i.least; most = omega (arith, i.most, long) }, λ i. record { least = i.least; most = omega (arith, i.most, long) })
 
 -- a file that is sent over a contact is no more than what is left on it
-hop_left : (light : Light) (left : ℕ) (c : Contact) (size t : ℕ) (a : Millis) → hopped light left c size t ≡ Ready a → consumed size ≤ left
+hop_left : (light : Option Millis) (left : ℕ) (c : Contact) (size t : ℕ) (a : Millis) → hopped light left c size t ≡ Some a → consumed size ≤ left
 hop_left light left c size t a e = go (hop_told light left c size t a e)
   where
-    go : {l : Light} {r : ℕ} → Hops left c size t l r → consumed size ≤ left
+    go : {l : Option Millis} {r : ℕ} → Hops left c size t l r → consumed size ≤ left
     go (over f b q) = b
 
 -- each contact of a chain that carries has the consumption left

@@ -12,10 +12,9 @@ use Prim.Native.Nat.{ℕ, ◌≤◌}
 use native.Mathlib.Nat.{le_refl, le_trans, lt_of_le_of_lt, lt_of_lt_of_le}
 use Rattle.units.specs.declared.Ask.{Ask}
 use Rattle.units.specs.declared.Millis.{Millis}
-use Rattle.plan.specs.declared.light.Light.{Light}
+use Rattle.std.specs.Prelude.{Option, Some, None}
 use Rattle.plan.specs.declared.rows.Contact.{Contact}
 use Rattle.service.specs.Service.{Service, Sound, InPlan, contact_of, light_in, left_in}
-use Rattle.timing.specs.declared.arrival.Arrival.TheVariants.{Ready}
 use Rattle.timing.specs.Chain.{Carries, stays, hops, Allowed, InTime, ask_at, ask_of}
 use Rattle.timing.specs.Hop.{hopped, is_barred}
 use Rattle.timing.proofs.Bounded.{contact_good}
@@ -46,21 +45,21 @@ serves_same p c i = record { in_plan = i; contact = refl; light = refl; left = l
 
 -- ---- one hop
 
-hop_left : (light : Light) {left more : ℕ} (c : Contact) (size t : ℕ) (a : Millis) → left ≤ more → hopped light left c size t ≡ Ready a
-    → hopped light more c size t ≡ Ready a
+hop_left : (light : Option Millis) {left more : ℕ} (c : Contact) (size t : ℕ) (a : Millis) → left ≤ more → hopped light left c size t ≡ Some a
+    → hopped light more c size t ≡ Some a
 hop_left light {left} {more} c size t a h e = hop_made (go (hop_told light left c size t a e))
   where
-    go : {light : Light} {r : ℕ} → Hops left c size t light r → Hops more c size t light r
+    go : {light : Option Millis} {r : ℕ} → Hops left c size t light r → Hops more c size t light r
     go (over {l} f w q) = over {l = l} f (le_trans w h) q
 
 -- over a contact that is served too, of a file that is no larger and ready no later
 served_hop : (p q : Service) (c : ℕ) (small size s t : ℕ) (b : Millis) → Sound p → InPlan p c → ServedToo p q c → small ≤ size → s ≤ t
-    → hopped (light_in p c) (left_in p c) (contact_of p c) size t ≡ Ready b
-    → (a : Millis) × (hopped (light_in q c) (left_in q c) (contact_of q c) small s ≡ Ready a) × (a.0 ≤ b.0)
+    → hopped (light_in p c) (left_in p c) (contact_of p c) size t ≡ Some b
+    → (a : Millis) × (hopped (light_in q c) (left_in q c) (contact_of q c) small s ≡ Some a) × (a.0 ≤ b.0)
 served_hop p q c small size s t b sound i too smaller sooner e =
     let (a₁, e₁, l₁) = hop_smaller _ _ _ (contact_good p sound c i).rate_least smaller t b e in
     let (a₂, e₂, l₂) = hop_sooner _ _ _ small sooner a₁ e₁ in
-    let e₃ : hopped (light_in p c) (left_in q c) (contact_of p c) small s ≡ Ready a₂ = hop_left (light_in p c) (contact_of p c) small s a₂ too.left e₂ in
+    let e₃ : hopped (light_in p c) (left_in q c) (contact_of p c) small s ≡ Some a₂ = hop_left (light_in p c) (contact_of p c) small s a₂ too.left e₂ in
     (a₂, rw (too.light, too.contact) e₃, le_trans l₂ l₁)
 
 -- ---- a chain

@@ -1,5 +1,4 @@
 // How an answer is printed, and its line ended.
-use plan::Light;
 use search::Routed;
 use units::{Refusal, number, place};
 use walk::{Figures, Walked};
@@ -60,10 +59,10 @@ pub fn verdict(rt: &impl Print, is_plan: bool) {
 }
 
 // A light time, or that there is none.
-pub fn light(rt: &impl Print, answer: Light) {
+pub fn light(rt: &impl Print, answer: Option<Millis>) {
     match answer {
-        Light::Of(light) => field(rt, light.0),
-        Light::Unranged => print(rt, b"\tunranged"),
+        Some(light) => field(rt, light.0),
+        None => print(rt, b"\tunranged"),
     }
     print(rt, b"\n");
 }

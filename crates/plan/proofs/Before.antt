@@ -4,6 +4,7 @@
 --     single_has          the light time by that rule is the contact's, where a single range covers it or all together do not
 --     light_as_before     and there it is the one found now
 -- Assumes nothing.
+use Rattle.std.specs.Prelude.{cond, Option, Some, None}
 use mathlib.Core.Bool.{Bool}
 use mathlib.Core.List.{List, [], ◌∷◌, map}
 use mathlib.Core.Logic.{◌⊎◌, inl, inr}
@@ -16,10 +17,8 @@ use lib.ListN.{length, get_or}
 use Rattle.units.specs.declared.Millis.{Millis}
 use Rattle.plan.specs.declared.rows.Contact.{Contact}
 use Rattle.plan.specs.declared.rows.Range.{Range}
-use Rattle.plan.specs.declared.light.Light.{Light}
-use Rattle.plan.specs.declared.light.Light.TheVariants.{Of, Unranged}
-use Rattle.plan.specs.Light.{Shares, CoversAt, Ranged, IsLargest, HasLight, ranged, not_ranged, pick_light, light_of}
-use Rattle.plan.specs.Plan.{Plan, GoodRange, Overlap, Each, Some, NoTwo, Valid, range_span}
+use Rattle.plan.specs.Light.{Shares, CoversAt, Ranged, IsLargest, HasLight, ranged, not_ranged, light_of}
+use Rattle.plan.specs.Plan.{Plan, GoodRange, Overlap, Each, ForSome, NoTwo, Valid, range_span}
 use Rattle.plan.specs.Single.{Covers, covers, single_light}
 use Rattle.plan.specs.Verdict.{Verdict, holds, fails}
 use Rattle.plan.proofs.Ranging.{light_has, has_light_determined}
@@ -33,20 +32,20 @@ covers_tells r c =
     (both (both (joins_tells r c) (tells_le r.start.0 c.start.0)) (tells_le c.end.0 r.end.0))
 
 -- what the rule makes of the ranges
-data Single (rs : List Range) (c : Contact) : Light → Type 0 where
-  covered : {l : Millis} → Some (λ r. Covers r c × (r.light ≡ l)) rs → Single rs c (Of l)
-  uncovered : Each (λ r. Covers r c → ⊥) rs → Single rs c Unranged
+data Single (rs : List Range) (c : Contact) : Option Millis → Type 0 where
+  covered : {l : Millis} → ForSome (λ r. Covers r c × (r.light ≡ l)) rs → Single rs c (Some l)
+  uncovered : Each (λ r. Covers r c → ⊥) rs → Single rs c None
 
 single_tells : (rs : List Range) (c : Contact) → Single rs c (single_light rs c)
 unfolding single_light Each
 single_tells [] c = uncovered (λ blank k h x. not-suc-le-zero h)
 single_tells (r ∷ rs) c = first (covers r c) (covers_tells r c) (single_tells rs c)
   where
-    later : {light : Light} → (Covers r c → ⊥) → Single rs c light → Single (r ∷ rs) c light
+    later : {light : Option Millis} → (Covers r c → ⊥) → Single rs c light → Single (r ∷ rs) c light
     later n (covered {l} s) = covered (some_later (λ x. Covers x c × (x.light ≡ l)) r rs s)
     later n (uncovered e) = uncovered (each_cons (λ x. Covers x c → ⊥) r rs n e)
 
-    first : (b : Bool) → Verdict (Covers r c) b → Single rs c (single_light rs c) → Single (r ∷ rs) c (pick_light b (Of r.light) (single_light rs c))
+    first : (b : Bool) → Verdict (Covers r c) b → Single rs c (single_light rs c) → Single (r ∷ rs) c (cond b (Some r.light) (single_light rs c))
     first _ (holds x) rest = covered (some_here (λ y. Covers y c × (y.light ≡ r.light)) r rs (x, refl))
     first _ (fails n) rest = later n rest
 
@@ -54,7 +53,7 @@ single_tells (r ∷ rs) c = first (covers r c) (covers_tells r c) (single_tells 
 covers_at : (r : Range) (c : Contact) (t : ℕ) → c.start.0 ≤ t → t < c.end.0 → Covers r c → CoversAt c t r
 covers_at r c t from until x = record { names = x.names; begun = omega (arith, x.starts); lasting = omega (arith, x.ends) }
 
-pub covers_ranged : (rs : List Range) (c : Contact) → Some (λ r. Covers r c) rs → Ranged rs c
+pub covers_ranged : (rs : List Range) (c : Contact) → ForSome (λ r. Covers r c) rs → Ranged rs c
 unfolding Ranged
 covers_ranged rs c s t from until = some_mapped (λ r. Covers r c) (CoversAt c t) rs s (λ r x. covers_at r c t from until x)
 
@@ -82,7 +81,7 @@ module _ (c : Contact) (h : c.start.0 < c.end.0) where
         overlaps : Overlap (range_span (get_or rs j blank)) (range_span (get_or rs k blank)) × Overlap (range_span (get_or rs k blank)) (range_span (get_or rs j blank))
         overlaps = meets (get_or rs j blank) (get_or rs k blank) (good blank j hj) (good blank k hk) x y
 
-    covered_largest : (l : Millis) → Some (λ r. Covers r c × (r.light ≡ l)) rs → IsLargest rs c l
+    covered_largest : (l : Millis) → ForSome (λ r. Covers r c × (r.light ≡ l)) rs → IsLargest rs c l
     unfolding Each
     covered_largest l s = record {
       is_one = some_mapped (λ r. Covers r c × (r.light ≡ l)) (λ r. Shares r c × (r.light ≡ l)) rs s (λ r x. (covers_shares r x.0, x.1));
@@ -93,15 +92,15 @@ module _ (c : Contact) (h : c.start.0 < c.end.0) where
           rw e (omega arith);
     }
 
-    pub single_has : Some (λ r. Covers r c) rs ⊎ (Ranged rs c → ⊥) → HasLight rs c (single_light rs c)
+    pub single_has : ForSome (λ r. Covers r c) rs ⊎ (Ranged rs c → ⊥) → HasLight rs c (single_light rs c)
     single_has told = go (single_tells rs c) told
       where
-        go : {light : Light} → Single rs c light → Some (λ r. Covers r c) rs ⊎ (Ranged rs c → ⊥) → HasLight rs c light
+        go : {light : Option Millis} → Single rs c light → ForSome (λ r. Covers r c) rs ⊎ (Ranged rs c → ⊥) → HasLight rs c light
         go (covered {l} s) t =
             ranged (covers_ranged rs c (some_mapped (λ r. Covers r c × (r.light ≡ l)) (λ r. Covers r c) rs s (λ r x. x.0))) (covered_largest l s)
         go (uncovered e) (inl s) = absurd (some_gives (λ r. Covers r c) (λ r. Covers r c → ⊥) rs s e (λ r x n. n x))
         go (uncovered e) (inr n) = not_ranged n
 
-pub light_as_before : (p : Plan) → Valid p → (c : Contact) → c.start.0 < c.end.0 → Some (λ r. Covers r c) p.ranges ⊎ (Ranged p.ranges c → ⊥)
+pub light_as_before : (p : Plan) → Valid p → (c : Contact) → c.start.0 < c.end.0 → ForSome (λ r. Covers r c) p.ranges ⊎ (Ranged p.ranges c → ⊥)
     → light_of p.ranges c ≡ single_light p.ranges c
 light_as_before p v c h told = has_light_determined (light_has p v c h) (single_has c h p.ranges v.ranges_good v.ranges_apart told)

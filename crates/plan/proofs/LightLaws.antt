@@ -14,7 +14,7 @@ use Rattle.plan.specs.Light.{Ranged, IsLargest, HasLight, ranged, not_ranged}
 use Rattle.plan.specs.Plan.{Each}
 use Rattle.plan.specs.declared.rows.Contact.{Contact}
 use Rattle.plan.specs.declared.rows.Range.{Range}
-use Rattle.plan.specs.declared.light.Light.TheVariants.{Of, Unranged}
+use Rattle.std.specs.Prelude.{Some, None}
 
 -- the range names the contact's two nodes: the light time holds both ways
 abbrev pub OfPair : Range → Contact → Type 0
@@ -76,15 +76,15 @@ module _ (rs : List Range) (c : Contact) where
     },
   )
 
-  pub has_light_exactly : (l : Millis) → HasLight rs c (Of l)
+  pub has_light_exactly : (l : Millis) → HasLight rs c (Some l)
       ↔ (((t : ℕ) → c.start.0 ≤ t → t < c.end.0 → Covered rs c t) × Largest rs c l.0)
   has_light_exactly l = (told, λ x. ranged (ranged_exactly.1 x.0) ((largest_exactly l).1 x.1))
     where
-      told : {m : Millis} → HasLight rs c (Of m) → ((t : ℕ) → c.start.0 ≤ t → t < c.end.0 → Covered rs c t) × Largest rs c m.0
+      told : {m : Millis} → HasLight rs c (Some m) → ((t : ℕ) → c.start.0 ≤ t → t < c.end.0 → Covered rs c t) × Largest rs c m.0
       told (ranged {l} f x) = (ranged_exactly.0 f, (largest_exactly l).0 x)
 
-  pub unranged_exactly : HasLight rs c Unranged ↔ (((t : ℕ) → c.start.0 ≤ t → t < c.end.0 → Covered rs c t) → ⊥)
+  pub unranged_exactly : HasLight rs c None ↔ (((t : ℕ) → c.start.0 ≤ t → t < c.end.0 → Covered rs c t) → ⊥)
   unranged_exactly = (told, λ n. not_ranged (λ f. n (ranged_exactly.0 f)))
     where
-      told : HasLight rs c Unranged → ((t : ℕ) → c.start.0 ≤ t → t < c.end.0 → Covered rs c t) → ⊥
+      told : HasLight rs c None → ((t : ℕ) → c.start.0 ≤ t → t < c.end.0 → Covered rs c t) → ⊥
       told (not_ranged n) f = n (ranged_exactly.1 f)

@@ -21,10 +21,9 @@ use Rattle.units.specs.declared.Millis.{Millis}
 use Rattle.units.specs.Limits.{most_light}
 use Rattle.plan.specs.declared.rows.Contact.{Contact}
 use Rattle.plan.specs.declared.rows.Range.{Range}
-use Rattle.plan.specs.declared.light.Light.{Light}
-use Rattle.plan.specs.declared.light.Light.TheVariants.{Of, Unranged}
-use Rattle.plan.specs.Light.{Shares, CoversAt, Ranged, IsLargest, HasLight, ranged, not_ranged, shared_by, shared_time, largest_light, pick_light, light_of}
-use Rattle.plan.specs.Plan.{Plan, GoodRange, Each, Some, Valid}
+use Rattle.std.specs.Prelude.{Option, Some, None}
+use Rattle.plan.specs.Light.{Shares, CoversAt, Ranged, IsLargest, HasLight, ranged, not_ranged, shared_by, shared_time, largest_light, light_of}
+use Rattle.plan.specs.Plan.{Plan, GoodRange, Each, ForSome, Valid}
 use Rattle.plan.specs.Verdict.{Verdict, holds, fails}
 use Rattle.plan.proofs.Sharing.{shares_shared, shares_tells, some_here, some_later, some_mapped, some_gives, ranged_tells}
 use Rattle.plan.proofs.Tests.{each_cons, each_head, each_tail}
@@ -62,23 +61,23 @@ SharesWith c l r = Shares r c × (r.light ≡ record { 0 = l })
 -- the larger of the first range's light time, where that shares time, and of the largest of the others
 module _ (c : Contact) (r : Range) (rs : List Range) where
   module _ (s : Shares r c) where
-    first_largest : (others : ℕ) → others ≤ r.light.0 → Some (SharesWith c (max r.light.0 others)) (r ∷ rs)
+    first_largest : (others : ℕ) → others ≤ r.light.0 → ForSome (SharesWith c (max r.light.0 others)) (r ∷ rs)
     first_largest others l =
         let e : r.light.0 ≡ max r.light.0 others = omega arith in
         some_here (SharesWith c (max r.light.0 others)) r rs (s, ap (λ (n : ℕ). record { 0 = n }) e)
 
-    largest_with : (others : ℕ) → Some (SharesWith c others) rs ⊎ (others ≡ 0) → Some (SharesWith c (max r.light.0 others)) (r ∷ rs)
+    largest_with : (others : ℕ) → ForSome (SharesWith c others) rs ⊎ (others ≡ 0) → ForSome (SharesWith c (max r.light.0 others)) (r ∷ rs)
     largest_with others (inr z) = first_largest others (omega arith)
     largest_with others (inl x) = elim (dec_le others r.light.0) [
       | yes l ↦ first_largest others l
       | no l ↦
           let e : others ≡ max r.light.0 others = omega arith in
-          some_later (SharesWith c (max r.light.0 others)) r rs (subst (λ (n : ℕ). Some (SharesWith c n) rs) e x)
+          some_later (SharesWith c (max r.light.0 others)) r rs (subst (λ (n : ℕ). ForSome (SharesWith c n) rs) e x)
     ]
 
 module _ (c : Contact) (h : c.start.0 < c.end.0) where
   -- one of the ranges has it, or none shares time with the contact
-  largest_found : (rs : List Range) → Each GoodRange rs → Some (SharesWith c (largest_light rs c)) rs ⊎ (Each (λ r. Shares r c → ⊥) rs × (largest_light rs c ≡ 0))
+  largest_found : (rs : List Range) → Each GoodRange rs → ForSome (SharesWith c (largest_light rs c)) rs ⊎ (Each (λ r. Shares r c → ⊥) rs × (largest_light rs c ≡ 0))
   unfolding largest_light Each
   largest_found [] good = inr (λ blank k l s. not-suc-le-zero l, refl)
   largest_found (r ∷ rs) good =
@@ -87,14 +86,14 @@ module _ (c : Contact) (h : c.start.0 < c.end.0) where
       others : ℕ
       others = largest_light rs c
 
-      go : (b : Bool) → Verdict (Shares r c) b → Some (SharesWith c others) rs ⊎ (Each (λ x. Shares x c → ⊥) rs × (others ≡ 0))
-          → Some (SharesWith c (cond b (max r.light.0 others) others)) (r ∷ rs)
+      go : (b : Bool) → Verdict (Shares r c) b → ForSome (SharesWith c others) rs ⊎ (Each (λ x. Shares x c → ⊥) rs × (others ≡ 0))
+          → ForSome (SharesWith c (cond b (max r.light.0 others) others)) (r ∷ rs)
           ⊎ (Each (λ x. Shares x c → ⊥) (r ∷ rs) × (cond b (max r.light.0 others) others ≡ 0))
       go _ (holds s) found = inl (largest_with c r rs s others (⊎_elim inl (λ n. inr n.1) found))
       go _ (fails n) (inl x) = inl (some_later (SharesWith c others) r rs x)
       go _ (fails n) (inr x) = inr (each_cons (λ y. Shares y c → ⊥) r rs n x.0, x.1)
 
-  pub largest_some : (rs : List Range) → Each GoodRange rs → Some (λ r. Shares r c) rs → Some (SharesWith c (largest_light rs c)) rs
+  pub largest_some : (rs : List Range) → Each GoodRange rs → ForSome (λ r. Shares r c) rs → ForSome (SharesWith c (largest_light rs c)) rs
   largest_some rs good some =
       ⊎_elim (λ x. x) (λ n. absurd (some_gives (λ r. Shares r c) (λ r. Shares r c → ⊥) rs some n.0 (λ r x no. no x))) (largest_found rs good)
 
@@ -105,7 +104,7 @@ module _ (c : Contact) (h : c.start.0 < c.end.0) where
   start_shares : (r : Range) → CoversAt c c.start.0 r → Shares r c
   start_shares r x = record { names = x.names; range_before = omega (arith, x.begun); contact_before = x.lasting }
 
-  ranged_some : (rs : List Range) → Ranged rs c → Some (λ r. Shares r c) rs
+  ranged_some : (rs : List Range) → Ranged rs c → ForSome (λ r. Shares r c) rs
   unfolding Ranged
   ranged_some rs told = some_mapped (CoversAt c c.start.0) (λ r. Shares r c) rs (told c.start.0 (omega arith) h) start_shares
 
@@ -117,7 +116,7 @@ light_has p v c h =
     rs : List Range
     rs = p.ranges
 
-    go : (b : Bool) → Verdict (Ranged rs c) b → HasLight rs c (pick_light b (Of (record { 0 = largest_light rs c })) Unranged)
+    go : (b : Bool) → Verdict (Ranged rs c) b → HasLight rs c (cond b (Some (record { 0 = largest_light rs c })) None)
     go _ (holds told) =
         ranged told
         (record {
@@ -132,20 +131,20 @@ largest_below {rs} {c} {l} {m} x y =
     some_gives (λ r. Shares r c × (r.light ≡ l)) (λ r. Shares r c → r.light.0 ≤ m.0) rs x.is_one y.largest
     (λ r s most. subst (λ (n : Millis). n.0 ≤ m.0) s.1 (most s.0))
 
-pub has_light_determined : {rs : List Range} {c : Contact} {a b : Light} → HasLight rs c a → HasLight rs c b → a ≡ b
-has_light_determined (ranged told x) (ranged told' y) = ap (λ (n : ℕ). Of (record { 0 = n })) (le_antisymm (largest_below x y) (largest_below y x))
+pub has_light_determined : {rs : List Range} {c : Contact} {a b : Option Millis} → HasLight rs c a → HasLight rs c b → a ≡ b
+has_light_determined (ranged told x) (ranged told' y) = ap (λ (n : ℕ). Some (record { 0 = n })) (le_antisymm (largest_below x y) (largest_below y x))
 has_light_determined (ranged told x) (not_ranged n) = absurd (n told)
 has_light_determined (not_ranged n) (ranged told x) = absurd (n told)
 has_light_determined (not_ranged n) (not_ranged n') = refl
 
 -- the light time found is in its range
-pub light_most : (p : Plan) → Valid p → (c : Contact) (l : Millis) → light_of p.ranges c ≡ Of l → l.0 ≤ most_light
+pub light_most : (p : Plan) → Valid p → (c : Contact) (l : Millis) → light_of p.ranges c ≡ Some l → l.0 ≤ most_light
 unfolding light_of Each
 light_most p v c l e = go (eqb (shared_time p.ranges c) (c.end.0 - c.start.0)) e
   where
     most : largest_light p.ranges c ≤ most_light
     most = largest_most c most_light p.ranges (λ blank k h. (v.ranges_good blank k h).light_most)
 
-    go : (b : Bool) → pick_light b (Of (record { 0 = largest_light p.ranges c })) Unranged ≡ Of l → l.0 ≤ most_light
+    go : (b : Bool) → cond b (Some (record { 0 = largest_light p.ranges c })) None ≡ Some l → l.0 ≤ most_light
     go true x = let same : largest_light p.ranges c ≡ l.0 = cc in subst (λ (n : ℕ). n ≤ most_light) same most
     go false x = let z : ◌≡◌ {A = ℕ} 0 1 = cc in absurd (omega arith)

@@ -6,13 +6,11 @@
 --     light_of            the same, as the code finds it. A reader of the promises may skip how: `light_has` of proofs/Ranging.antt says that it is the
 --                        light time that the contact has, for the ranges of a valid plan
 -- Assumes nothing.
-use Rattle.std.specs.Prelude.{Bool, true, false, ◌&&◌, ◌||◌, cond, List, [], ◌∷◌, ◌⊎◌, ◌≡◌, ℕ, ◌+◌, ◌-◌, ◌≤◌, ◌<◌, min, max, leb, eqb}
+use Rattle.std.specs.Prelude.{Bool, true, false, ◌&&◌, ◌||◌, cond, List, [], ◌∷◌, ◌⊎◌, ◌≡◌, ℕ, ◌+◌, ◌-◌, ◌≤◌, ◌<◌, min, max, leb, eqb, Option, Some, None}
 use Rattle.units.specs.declared.Millis.{Millis}
-use Rattle.plan.specs.Plan.{Each, Some}
+use Rattle.plan.specs.Plan.{Each, ForSome}
 use Rattle.plan.specs.declared.rows.Contact.{Contact}
 use Rattle.plan.specs.declared.rows.Range.{Range}
-use Rattle.plan.specs.declared.light.Light.{Light}
-use Rattle.plan.specs.declared.light.Light.TheVariants.{Of, Unranged}
 
 -- the range names the contact's two nodes, whichever way
 abbrev pub Joins : Range → Contact → Type 0
@@ -32,15 +30,15 @@ pub record CoversAt (c : Contact) (t : ℕ) (r : Range) : Type 0 where
 
 -- every millisecond of the contact lies in a range of its pair
 unfoldable pub Ranged : List Range → Contact → Type 0
-Ranged rs c = (t : ℕ) → c.start.0 ≤ t → t < c.end.0 → Some (CoversAt c t) rs
+Ranged rs c = (t : ℕ) → c.start.0 ≤ t → t < c.end.0 → ForSome (CoversAt c t) rs
 
 pub record IsLargest (rs : List Range) (c : Contact) (l : Millis) : Type 0 where
-  pub is_one : Some (λ r. Shares r c × (r.light ≡ l)) rs
+  pub is_one : ForSome (λ r. Shares r c × (r.light ≡ l)) rs
   pub largest : Each (λ r. Shares r c → r.light.0 ≤ l.0) rs
 
-pub data HasLight (rs : List Range) (c : Contact) : Light → Type 0 where
-  ranged : {l : Millis} → Ranged rs c → IsLargest rs c l → HasLight rs c (Of l)
-  not_ranged : (Ranged rs c → ⊥) → HasLight rs c Unranged
+pub data HasLight (rs : List Range) (c : Contact) : Option Millis → Type 0 where
+  ranged : {l : Millis} → Ranged rs c → IsLargest rs c l → HasLight rs c (Some l)
+  not_ranged : (Ranged rs c → ⊥) → HasLight rs c None
 
 -- ---- as the code finds it, which a reader of the promises may skip: the ranges of a valid plan do not overlap, so they cover the contact exactly
 -- where the time that they share with it adds up to its length
@@ -64,10 +62,6 @@ unfolding shared_by
 largest_light [] c = 0
 largest_light (r ∷ rs) c = let others = largest_light rs c in cond (leb 1 (shared_by r c)) (max r.light.0 others) others
 
-abbrev pub pick_light : Bool → Light → Light → Light
-pick_light true a b = a
-pick_light false a b = b
-
-unfoldable pub light_of : List Range → Contact → Light
+unfoldable pub light_of : List Range → Contact → Option Millis
 unfolding shared_time largest_light
-light_of rs c = pick_light (eqb (shared_time rs c) (c.end.0 - c.start.0)) (Of (record { 0 = largest_light rs c })) Unranged
+light_of rs c = cond (eqb (shared_time rs c) (c.end.0 - c.start.0)) (Some (record { 0 = largest_light rs c })) None

@@ -4,10 +4,8 @@
 
 #![tactic(auto)]
 
-mod light;
 mod rows;
 mod valid;
 
-pub use light::Light;
 pub use rows::{Contact, Range, Span, WORDS, contact_numbered, contact_row, range_row, span_row};
 pub use valid::{is_clear, is_good_contact, is_good_range, is_overlap};

@@ -12,7 +12,7 @@ use lib.Dec.{leb}
 use borrow.Author.Tests.{eq-eqb, ne_eqb, le-leb}
 use Rattle.plan.specs.declared.rows.Contact.{Contact}
 use Rattle.plan.specs.declared.rows.Range.{Range}
-use Rattle.plan.specs.declared.light.Light.TheVariants.{Of, Unranged}
+use Rattle.std.specs.Prelude.{Some, None}
 use Rattle.plan.specs.Light.{shared_by, shared_time, largest_light, light_of}
 use Rattle.plan.specs.Tables.{rows_from}
 use Rattle.plan.proofs.RowList.{rows_more}
@@ -69,7 +69,7 @@ module _ (whole rest : List Range) (c : Contact) (missing light : ℕ) (g : Gath
   pub gathered_room : shared_time whole c ≤ c.end.0 - c.start.0 → shared_time rest c ≤ missing
   gathered_room most = omega (arith, g.time_so_far)
 
-  pub gathered_found : shared_time whole c ≤ c.end.0 - c.start.0 → missing ≡ 0 → Of (record { 0 = light }) ≡ light_of whole c
+  pub gathered_found : shared_time whole c ≤ c.end.0 - c.start.0 → missing ≡ 0 → Some (record { 0 = light }) ≡ light_of whole c
   unfolding light_of
   gathered_found most e =
       let none : shared_time rest c ≡ 0 = omega (arith, gathered_room most) in
@@ -77,7 +77,7 @@ module _ (whole rest : List Range) (c : Contact) (missing light : ℕ) (g : Gath
       let largest : light ≡ largest_light whole c = omega (arith, g.light_so_far, none_largest c rest none) in
       rw (eq-eqb (shared_time whole c) (c.end.0 - c.start.0) all, largest)
 
-  pub gathered_out : shared_time rest c ≡ 0 → 1 ≤ missing → Unranged ≡ light_of whole c
+  pub gathered_out : shared_time rest c ≡ 0 → 1 ≤ missing → None ≡ light_of whole c
   unfolding light_of
   gathered_out none some = rw (ne_eqb (shared_time whole c) (c.end.0 - c.start.0) (λ e. omega (arith, g.time_so_far)))
 

@@ -15,7 +15,7 @@ use native.Mathlib.Omega.{arith}
 use lib.ListN.{get_or}
 use Rattle.plan.specs.declared.rows.Contact.{Contact}
 use Rattle.plan.specs.declared.rows.Range.{Range}
-use Rattle.plan.specs.declared.light.Light.TheVariants.{Of, Unranged}
+use Rattle.std.specs.Prelude.{Some, None}
 use Rattle.plan.specs.Light.{Joins, shared_by, shared_time, light_of}
 use Rattle.plan.specs.Plan.{GoodContact, GoodRange}
 use Rattle.plan.specs.Tables.{range_at, span_at, rows_from}
@@ -97,7 +97,7 @@ module _ (ranges : List ℕ) (n : ℕ) (nexts : List ℕ) (c : Contact) (linked 
           ]
 
   module _ (missing light j : ℕ) (so_far : Walked ranges n c missing light j) where
-    pub walk_ends : n ≤ j → Unranged ≡ light_of all c
+    pub walk_ends : n ≤ j → None ≡ light_of all c
     unfolding shared_time
     walk_ends h =
         gathered_out all (ranges_from ranges n j) c missing light so_far.gathered (rw (rows_done (range_at ranges) j n h)) so_far.some_missing
@@ -108,7 +108,7 @@ module _ (ranges : List ℕ) (n : ℕ) (nexts : List ℕ) (c : Contact) (linked 
       walk_good = subst GoodRange (sym er) (good_at j h)
 
       -- it starts no earlier than the contact ends, and so do all behind it
-      pub walk_stops : InOrder ranges n nexts → c.end.0 ≤ r.start.0 → Unranged ≡ light_of all c
+      pub walk_stops : InOrder ranges n nexts → c.end.0 ≤ r.start.0 → None ≡ light_of all c
       unfolding shared_time
       walk_stops order behind =
           gathered_out all (ranges_from ranges n n) c missing light
@@ -154,7 +154,7 @@ module _ (ranges : List ℕ) (n : ℕ) (nexts : List ℕ) (c : Contact) (linked 
               el ∙ ap₂ (λ (x : Range) (m : ℕ). larger x.light.0 m light) er there in
               rw (there, at_row) (gathered_more (range_at ranges) c n all j missing light so_far.gathered h (rw there at walk_room))
 
-          pub walk_found : missing - shared ≡ 0 → Of (record { 0 = light' }) ≡ light_of all c
+          pub walk_found : missing - shared ≡ 0 → Some (record { 0 = light' }) ≡ light_of all c
           walk_found none = gathered_found all (ranges_from ranges n (j + 1)) c (missing - shared) light' taken most none
 
           pub walk_goes : (missing - shared ≡ 0 → ⊥) → (next : ℕ) → next ≡ get_or nexts j 0 → Walked ranges n c (missing - shared) light' next
@@ -164,12 +164,12 @@ module _ (ranges : List ℕ) (n : ℕ) (nexts : List ℕ) (c : Contact) (linked 
 
   -- the walk begins at row j
   module _ (j : ℕ) (p : Passed ranges n (pair_slot (pair_of c)) c.start.0 j) where
-    pub open_none : n ≤ j → Unranged ≡ light_of all c
+    pub open_none : n ≤ j → None ≡ light_of all c
     open_none = walk_ends (c.end.0 - c.start.0) 0 j (walk_starts j p)
 
     -- its range, which is r, covers all of the contact
     pub open_covers : j < n → (r : Range) → r ≡ range_at ranges j → Joins r c → r.start.0 ≤ c.start.0 → c.end.0 ≤ r.end.0
-        → Of (record { 0 = r.light.0 }) ≡ light_of all c
+        → Some (record { 0 = r.light.0 }) ≡ light_of all c
     open_covers h r er names before after =
         let shared : c.end.0 - c.start.0 ≡ shared_by r c =
         shared_is r c names c.start.0 c.end.0 (omega arith) (omega (arith, good.starts)) in

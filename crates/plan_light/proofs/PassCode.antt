@@ -18,7 +18,7 @@ use lib.Seq.{get_or-set_same, get_or-set_other}
 use Rattle.plan.specs.declared.rows.Contact.{Contact}
 use Rattle.plan.specs.declared.rows.Range.{Range}
 use Rattle.plan.specs.declared.rows.Span.{Span}
-use Rattle.plan.specs.declared.light.Light.TheVariants.{Unranged}
+use Rattle.std.specs.Prelude.{Some, None}
 use Rattle.plan.specs.Light.{light_of}
 use Rattle.plan.specs.Plan.{GoodContact, GoodRange}
 use Rattle.plan.specs.Tables.{range_at, rows_from}
@@ -111,7 +111,7 @@ module _ (ranges : List ℕ) (n : ℕ) (heads nexts : List ℕ) (c : Contact) (l
   pub head_passed : Passed ranges n (pair_slot (pair_of c)) c.start.0 head
   head_passed = passed_first ranges n (pair_slot (pair_of c)) c.start.0 head least
 
-  pub head_none : n ≤ head → Unranged ≡ light_of (rows_from (range_at ranges) 0 n) c
+  pub head_none : n ≤ head → None ≡ light_of (rows_from (range_at ranges) 0 n) c
   head_none = open_none ranges n nexts c listed.rows good head head_passed
 
   module _ (h : head < n) where

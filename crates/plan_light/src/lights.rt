@@ -9,7 +9,7 @@ ghost use Rattle.plan.specs.Tables.{words, range_at, rows_from};
 ghost use Rattle.plan_lists.specs.Lists.{LeastFrom, pair_slot, slot_at, InOrder};
 ghost use Rattle.plan_light.specs.Model.{pair_of, RangesLinked, RangesListed, Passed, Past, Kept};
 
-use plan::{Contact, Light, Range, Span, range_row};
+use plan::{Contact, Range, Span, range_row};
 use plan_lists::{head_of, next_of};
 use units::{Millis, NodeNo};
 
@@ -107,7 +107,7 @@ fn light_along(
     ordered: bool,
     begin: usize,
     c: Contact,
-) -> Light
+) -> Option<Millis>
     requires { RangesLinked ranges.now range_count nexts.now × GoodContact c × Passed ranges.now range_count (pair_slot (pair_of c)) c.start.0 begin × (ordered ≡ true → InOrder ranges.now range_count nexts.now) }
     ensures { result ≡ light_of (rows_from (range_at ranges.now) 0 range_count) c }
 {
@@ -118,17 +118,17 @@ fn light_along(
     while j < range_count {
         let r = range_row(ranges, j);
         if is_behind(ordered, r, c) {
-            return Light::Unranged;
+            return None;
         }
         let shared = shared_by(r, pair, c);
         light = largest_with(r.light.0, shared, light);
         missing -= shared;
         if missing == 0 {
-            return Light::Of(Millis(light));
+            return Some(Millis(light));
         }
         j = next_of(nexts, j);
     }
-    Light::Unranged
+    None
 }
 
 // The last range of the list from row `begin` on that ends by the time, as the one in that row does.
@@ -201,18 +201,18 @@ pub fn light_kept(
     ordered: bool,
     kept: &mut [u16],
     c: Contact,
-) -> Light
+) -> Option<Millis>
     requires { RangesListed ranges.now range_count heads.now nexts.now × (ordered ≡ true → InOrder ranges.now range_count nexts.now) × GoodContact c × Kept ranges.now range_count kept.old }
     ensures { (result ≡ light_of (rows_from (range_at ranges.now) 0 range_count) c) × Kept ranges.now range_count kept.new × (length kept.new ≡ length kept.old) }
 {
     let pair = pair_of(c);
     let head = head_of(heads, pair);
     if range_count <= head {
-        return Light::Unranged;
+        return None;
     }
     let r = range_row(ranges, head);
     if is_covering(r, pair, c) {
-        return Light::Of(Millis(r.light.0));
+        return Some(Millis(r.light.0));
     }
     let start = c.start;
     let open = open_row(ranges, range_count, nexts, ordered, kept, head, start);

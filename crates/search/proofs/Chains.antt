@@ -3,6 +3,7 @@
 --     carries_reaches, reaches_carries      from the ask's source and time to its destination
 --     allowed_reaches                       so an allowed chain between two different nodes is one that reaches the goal
 -- Assumes nothing.
+use Rattle.std.specs.Prelude.{cond, Option, Some, None}
 use mathlib.Core.Bool.{Bool, true, false}
 use mathlib.Core.List.{List}
 use mathlib.Core.Logic.{◌↔◌}
@@ -11,10 +12,9 @@ use Prim.Native.Nat.{ℕ, ◌-◌, ◌≤◌}
 use native.Mathlib.Omega.{arith}
 use Rattle.units.specs.declared.Ask.{Ask}
 use Rattle.service.specs.Service.{Service, Sound, contact_of}
-use Rattle.timing.specs.declared.arrival.Arrival.{Arrival}
-use Rattle.timing.specs.declared.arrival.Arrival.TheVariants.{Ready, Never}
+use Rattle.units.specs.declared.Millis.{Millis}
 use Rattle.timing.specs.Chain.{Carries, stays, hops, Allowed}
-use Rattle.timing.specs.Hop.{pick_arrival}
+
 use Rattle.timing.specs.Model.{delivery_of}
 use Rattle.walk.specs.Walk.{GoodAsk}
 use Rattle.timing.proofs.Bounded.{contact_good}
@@ -22,15 +22,14 @@ use Rattle.timing.proofs.ChainLaws.{carry_complete, allowed_delivery}
 use Rattle.network.specs.Best.{Reaches}
 use Rattle.network.specs.Network.{at, Runs}
 use Rattle.network.specs.Network as Net
-use Rattle.search_layers.specs.Bridge.{when_of, network_of}
-use Rattle.search_layers.specs.Bridge.{goal}
+use Rattle.search_layers.specs.Bridge.{when_of, network_of, goal}
 use Rattle.search_layers.proofs.NetworkLaws.{contact_in_plan, in_plan_contact, barred_hop, step_is}
 
 -- a step that is made: the contact is not barred, and the hop over it is made
-free_hop : (bar : Bool) (a : Arrival) (s : ℕ) → when_of (pick_arrival bar Never a) ≡ at s → (bar ≡ false) × (a ≡ Ready (record { 0 = s }))
+free_hop : (bar : Bool) (a : Option Millis) (s : ℕ) → when_of (cond bar None a) ≡ at s → (bar ≡ false) × (a ≡ Some (record { 0 = s }))
 free_hop true a s e = let z : ◌≡◌ {A = ℕ} 0 1 = cc in absurd (omega arith)
-free_hop false (Ready x) s e = let q : x.0 ≡ s = cc in (refl, λ i. Ready (record { 0 = q i }))
-free_hop false Never s e = let z : ◌≡◌ {A = ℕ} 0 1 = cc in absurd (omega arith)
+free_hop false (Some x) s e = let q : x.0 ≡ s = cc in (refl, λ i. Some (record { 0 = q i }))
+free_hop false None s e = let z : ◌≡◌ {A = ℕ} 0 1 = cc in absurd (omega arith)
 
 pub carries_runs : {p : Service} {ask : Ask} {u t : ℕ} {chain : List ℕ} {v r : ℕ} → Carries p ask u t chain v r → Runs (network_of p ask) (u - 1) t chain (v - 1) r
 unfolding barred_hop network_of

@@ -15,8 +15,7 @@ use Rattle.units.specs.declared.Millis.{Millis}
 use Rattle.units.specs.Limits.{last_time, most_light}
 use Rattle.plan.specs.declared.rows.Contact.{Contact}
 use Rattle.service.specs.Service.{Service, Sound, contact_of, light_in, left_in, InPlan}
-use Rattle.timing.specs.declared.arrival.Arrival.{Arrival}
-use Rattle.timing.specs.declared.arrival.Arrival.TheVariants.{Ready, Never}
+use Rattle.std.specs.Prelude.{Option, Some, None}
 use Rattle.timing.specs.Hop.{is_barred}
 use Rattle.timing.specs.Model.{over_contact}
 use Rattle.timing.proofs.Bounded.{contact_good, light_good}
@@ -73,19 +72,19 @@ module _ (p : Service) (ask : Ask) (c ready : ℕ) (named : InPlan p c) (word : 
           hops time true (sym bar ∙ shut)
       go (inr e) = rw (when_never ready e)
 
-  module _ (opened : (eqb ready never_word || is_barred ask x) ≡ false) (a : Arrival) (ea : a ≡ over_contact p ask c ready) where
+  module _ (opened : (eqb ready never_word || is_barred ask x) ≡ false) (a : Option Millis) (ea : a ≡ over_contact p ask c ready) where
     comes : behind (network_of p ask) c (when_word ready) ≡ when_of a
     unfolding barred_hop over_contact
     comes = hops (open_time ready (is_barred ask x) opened word) false (open_free ready (is_barred ask x) opened) ∙ ap when_of (sym ea)
 
-    pub arrive_ready : Sound p → (t : Millis) → a ≡ Ready t → Arrives p ask c ready t.0
+    pub arrive_ready : Sound p → (t : Millis) → a ≡ Some t → Arrives p ask c ready t.0
     unfolding over_contact
     arrive_ready sound t et =
         let after-end = hop_bounded (light_in p c) (left_in p c) (contact_of p c) (light_good p sound c named) ask.size ready t (sym ea ∙ et) in
         let bound : t.0 ≤ last_time + most_light = omega (arith, (contact_good p sound c named).ends, after-end) in
         (when_time t.0 bound ∙ sym (comes ∙ ap when_of et), inl bound)
 
-    pub arrive_unready : a ≡ Never → Arrives p ask c ready never_word
+    pub arrive_unready : a ≡ None → Arrives p ask c ready never_word
     arrive_unready et = (when_never never_word refl ∙ sym (comes ∙ ap when_of et), inr refl)
 
 -- the file is at the contact's last node at `there` already

@@ -16,20 +16,17 @@ use Rattle.units.specs.Limits.{most_nodes, IsNode}
 use Rattle.units.specs.declared.Ask.{Ask}
 use Rattle.units.specs.declared.Millis.{Millis}
 use Rattle.units.specs.declared.NodeNo.{NodeNo}
-use Rattle.plan.specs.declared.light.Light.{Light}
+use Rattle.std.specs.Prelude.{Option, Some, None}
 use Rattle.plan.specs.declared.rows.Contact.{Contact}
 use Rattle.service.specs.Service.{Service, Sound, contact_of, light_in, left_in, InPlan}
-use Rattle.timing.specs.declared.arrival.Arrival.{Arrival}
-use Rattle.timing.specs.declared.arrival.Arrival.TheVariants.{Ready, Never}
-use Rattle.timing.specs.Hop.{hopped, is_barred, pick_arrival}
+use Rattle.timing.specs.Hop.{hopped, is_barred}
 use Rattle.timing.specs.Model.{goes_on, over_contact, step_over, back_over}
 use Rattle.walk.specs.Walk.{GoodAsk}
 use Rattle.timing.proofs.Bounded.{contact_good}
 use Rattle.timing.proofs.HopLaws.{Hops, over, hop_told, hop_sent, hop_after, hop_sooner, back_enough, back_needed}
 use Rattle.network.specs.Model.{behind}
 use Rattle.network.specs.Network.{When, at, never, NotLater, both, last, Within, within, IsContact, Laws}
-use Rattle.search_layers.specs.Bridge.{when_of, back_step, network_of}
-use Rattle.search_layers.specs.Bridge.{goal}
+use Rattle.search_layers.specs.Bridge.{when_of, back_step, network_of, goal}
 
 pub contact_in_plan : {p : Service} (ask : Ask) {c : ℕ} → IsContact (network_of p ask) c → InPlan p c
 unfolding network_of
@@ -40,23 +37,23 @@ unfolding network_of
 in_plan_contact ask i = record { least = i.least; most = i.most }
 
 -- a hop over a contact that may be barred, and the limit before it
-unfoldable pub barred_hop : Bool → Light → ℕ → Contact → ℕ → ℕ → When
-barred_hop bar light left x size t = when_of (pick_arrival bar Never (hopped light left x size t))
+unfoldable pub barred_hop : Bool → Option Millis → ℕ → Contact → ℕ → ℕ → When
+barred_hop bar light left x size t = when_of (cond bar None (hopped light left x size t))
 
-barred_back : Bool → Light → ℕ → Contact → ℕ → ℕ → ℕ
+barred_back : Bool → Option Millis → ℕ → Contact → ℕ → ℕ → ℕ
 barred_back bar light left x size limit = cond bar 0 (back_over light left x size limit)
 
 -- a file that is ready wherever another is, and no later
-arrival_not_later : (a b : Arrival) → ((y : Millis) → b ≡ Ready y → (x : Millis) × (a ≡ Ready x) × (x.0 ≤ y.0)) → NotLater (when_of a) (when_of b)
-arrival_not_later a (Ready y) h = let (x, e, l) = h y refl in rw e (both l)
-arrival_not_later a Never h = last
+arrival_not_later : (a b : Option Millis) → ((y : Millis) → b ≡ Some y → (x : Millis) × (a ≡ Some x) × (x.0 ≤ y.0)) → NotLater (when_of a) (when_of b)
+arrival_not_later a (Some y) h = let (x, e, l) = h y refl in rw e (both l)
+arrival_not_later a None h = last
 
-within_arrival : (a : Arrival) {limit : ℕ} → Within (when_of a) limit → (x : Millis) × (a ≡ Ready x) × (x.0 < limit)
-within_arrival (Ready x) (within h) = (x, refl, h)
-within_arrival Never {limit = limit} x' = elim x' [ ]
+within_arrival : (a : Option Millis) {limit : ℕ} → Within (when_of a) limit → (x : Millis) × (a ≡ Some x) × (x.0 < limit)
+within_arrival (Some x) (within h) = (x, refl, h)
+within_arrival None {limit = limit} x' = elim x' [ ]
 
 -- the laws of one hop
-module _ (light : Light) (left : ℕ) (x : Contact) (size : ℕ) where
+module _ (light : Option Millis) (left : ℕ) (x : Contact) (size : ℕ) where
   sooner_barred : (bar : Bool) {s t : ℕ} → s ≤ t → NotLater (barred_hop bar light left x size s) (barred_hop bar light left x size t)
   unfolding barred_hop
   sooner_barred true h = last
@@ -66,25 +63,25 @@ module _ (light : Light) (left : ℕ) (x : Contact) (size : ℕ) where
   unfolding barred_hop
   after_barred true t = last
   after_barred false t =
-      arrival_not_later (Ready (record { 0 = t })) (hopped light left x size t) (λ y e. (record { 0 = t }, refl, hop_after light left x size t y e))
+      arrival_not_later (Some (record { 0 = t })) (hopped light left x size t) (λ y e. (record { 0 = t }, refl, hop_after light left x size t y e))
 
   start_barred : (bar : Bool) (t : ℕ) → NotLater (at x.start.0) (barred_hop bar light left x size t)
   unfolding barred_hop
   start_barred true t = last
   start_barred false t =
-      arrival_not_later (Ready x.start) (hopped light left x size t) (λ y e. (x.start, refl, omega (arith, hop_sent light left x size t y e)))
+      arrival_not_later (Some x.start) (hopped light left x size t) (λ y e. (x.start, refl, omega (arith, hop_sent light left x size t y e)))
 
   ended_barred : (bar : Bool) (t : ℕ) → x.end.0 < t → barred_hop bar light left x size t ≡ never
   unfolding barred_hop
   ended_barred true t h = refl
   ended_barred false t h = go (hopped light left x size t) (λ y e. ended_unfit y (hop_told light left x size t y e))
     where
-      ended_unfit : {l : Light} (y : Millis) → Hops left x size t l y.0 → ⊥
+      ended_unfit : {l : Option Millis} (y : Millis) → Hops left x size t l y.0 → ⊥
       ended_unfit y (over fits _ _) = omega arith
 
-      go : (a : Arrival) → ((y : Millis) → a ≡ Ready y → ⊥) → when_of a ≡ never
-      go (Ready y) none = absurd (none y refl)
-      go Never none = refl
+      go : (a : Option Millis) → ((y : Millis) → a ≡ Some y → ⊥) → when_of a ≡ never
+      go (Some y) none = absurd (none y refl)
+      go None none = refl
 
   enough_barred : (bar : Bool) (t limit : ℕ) → t < barred_back bar light left x size limit → Within (barred_hop bar light left x size t) limit
   unfolding barred_hop barred_back
@@ -104,7 +101,7 @@ step_is p ask c t i =
     rw (le-leb 1 c i.least, le-leb c (length p.contacts) i.most, eq-eqb x.from.0 x.from.0 refl)
     (ap when_of (turned (is_barred ask x) (hopped (light_in p c) (left_in p c) x ask.size t)))
   where
-    turned : (b : Bool) (a : Arrival) → pick_arrival (not b) a Never ≡ pick_arrival b Never a
+    turned : (b : Bool) (a : Option Millis) → cond (not b) a None ≡ cond b None a
     turned true a = refl
     turned false a = refl
 

@@ -1,19 +1,18 @@
 -- A plan with an ask, seen as a network: node n of the plan is node n - 1 of the network, and contacts keep their numbers. A reader of the promises
 -- may skip it.
 -- Assumes nothing.
-use Rattle.std.specs.Prelude.{cond, ℕ, ◌-◌, length}
+use Rattle.std.specs.Prelude.{cond, ℕ, ◌-◌, length, Option, Some, None}
 use Rattle.units.specs.Limits.{most_nodes}
 use Rattle.units.specs.declared.Ask.{Ask}
 use Rattle.service.specs.Service.{Service, contact_of, light_in, left_in}
-use Rattle.timing.specs.declared.arrival.Arrival.{Arrival}
-use Rattle.timing.specs.declared.arrival.Arrival.TheVariants.{Ready, Never}
+use Rattle.units.specs.declared.Millis.{Millis}
 use Rattle.timing.specs.Hop.{is_barred}
 use Rattle.timing.specs.Model.{step_over, back_over}
 use Rattle.network.specs.Network.{When, at, never, Network}
 
-abbrev pub when_of : Arrival → When
-when_of (Ready t) = at t.0
-when_of Never = never
+abbrev pub when_of : Option Millis → When
+when_of (Some t) = at t.0
+when_of None = never
 
 -- the limit before a contact; nothing goes over a barred one
 unfoldable pub back_step : Service → Ask → ℕ → ℕ → ℕ

@@ -16,7 +16,7 @@ ghost use Rattle.search_layers.specs.Words.{never_word, when_word, TimeWord, row
 use crate::rows::{NEVER, get, put};
 use plan::{Contact, contact_numbered};
 use plan_lists::{first_from, next_of};
-use timing::{Arrival, is_barred, over};
+use timing::{is_barred, over};
 use units::{Ask, ContactNo, MOST_NODES, Millis, NodeNo};
 
 // Whether nothing comes over the contact, whatever it offers: the file is never ready before it, or it goes
@@ -47,8 +47,8 @@ pub fn arrive(
     }
     let arrival = over(contacts, contact_count, lights, lefts, ask, no, ready);
     match arrival {
-        Arrival::Ready(t) => t,
-        Arrival::Never => Millis(NEVER),
+        Some(t) => t,
+        None => Millis(NEVER),
     }
 }
 

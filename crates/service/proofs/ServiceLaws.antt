@@ -18,8 +18,8 @@ use lib.Dec.{lit≤}
 use lib.ListN.{length, get_or, length-map}
 use lib.Seq.{ext_get_or}
 use Rattle.plan.specs.declared.rows.Contact.{Contact}
-use Rattle.plan.specs.declared.light.Light.{Light}
-use Rattle.plan.specs.declared.light.Light.TheVariants.{Of, Unranged}
+use Rattle.std.specs.Prelude.{Option, Some, None}
+use Rattle.units.specs.declared.Millis.{Millis}
 use Rattle.plan.specs.Light.{HasLight, light_of}
 use Rattle.plan.specs.Plan.{Plan, Each, Valid}
 use Rattle.plan.specs.Tables.{rows_from, IsPlan, plan_of}
@@ -69,7 +69,7 @@ module _ (p : Plan) (used : ℕ → ℕ) (c : ℕ) where
 
     pub service_light : light_in (service_of p used) c ≡ light_of p.ranges (contact_of (service_of p used) c)
     unfolding service_of
-    service_light = get_d_mapped (light_of p.ranges) p.contacts (c - 1) blank Unranged named_below
+    service_light = get_d_mapped (light_of p.ranges) p.contacts (c - 1) blank None named_below
 
     pub service_left : left_in (service_of p used) c ≡ volume (contact_of (service_of p used) c) - used c
     unfolding service_of
@@ -96,9 +96,9 @@ volume_bounds c =
 pub light_good : (p : Plan) → Valid p → (c : Contact) → LightGood (light_of p.ranges c)
 light_good p v c = go (light_of p.ranges c) refl
   where
-    go : (light : Light) → light_of p.ranges c ≡ light → LightGood light
-    go (Of l) e = light_most p v c l e
-    go Unranged e = tt
+    go : (light : Option Millis) → light_of p.ranges c ≡ light → LightGood light
+    go (Some l) e = light_most p v c l e
+    go None e = tt
 
 pub service_sound : (p : Plan) → Valid p → (used : ℕ → ℕ) → Sound (service_of p used)
 unfolding service_of Each
@@ -116,7 +116,7 @@ pub service_has_light : (p : Plan) → Valid p → (used : ℕ → ℕ) (c : ℕ
     → HasLight p.ranges (contact_of (service_of p used) c) (light_in (service_of p used) c)
 unfolding Each
 service_has_light p v used c i =
-    subst (λ (light : Light). HasLight p.ranges (contact_of (service_of p used) c) light) (sym (service_light p used c i))
+    subst (λ (light : Option Millis). HasLight p.ranges (contact_of (service_of p used) c) light) (sym (service_light p used c i))
     (light_has p v (contact_of (service_of p used) c) ((service_sound p v used).contacts_good blank (c - 1) (omega (arith, i.least, i.most))).starts)
 
 pub is_service : (contacts : List ℕ) (m : ℕ) (ranges : List ℕ) (n : ℕ) (lights lefts : List ℕ) (used : ℕ → ℕ) → IsPlan contacts m ranges n

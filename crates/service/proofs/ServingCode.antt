@@ -20,8 +20,7 @@ use Rattle.units.specs.Limits.{last_time, most_rate, most_light, most_ranges}
 use Rattle.units.specs.declared.Millis.{Millis}
 use Rattle.plan.specs.declared.rows.Contact.{Contact}
 use Rattle.plan.specs.declared.rows.Range.{Range}
-use Rattle.plan.specs.declared.light.Light.{Light}
-use Rattle.plan.specs.declared.light.Light.TheVariants.{Of, Unranged}
+use Rattle.std.specs.Prelude.{Option, Some, None}
 use Rattle.plan.specs.Light.{light_of}
 use Rattle.plan.specs.Plan.{GoodContact, GoodRange, Each}
 use Rattle.plan.specs.Tables.{contact_at, range_at, rows_from, plan_of, IsPlan}
@@ -43,19 +42,19 @@ volume_room c g =
     let most : c.rate * (c.end.0 - c.start.0) ≤ most_rate * last_time = mul-le-mul {m₂ = last_time} g.rate_most (omega (arith, g.ends)) in
     omega arith
 
-pub word_fits : (light : Light) (l : Millis) → LightGood light → light ≡ Of l → l.0 < 4_294_967_296
+pub word_fits : (light : Option Millis) (l : Millis) → LightGood light → light ≡ Some l → l.0 < 4_294_967_296
 unfolding most_light
 word_fits light l good e =
     let most : l.0 ≤ most_light = subst LightGood e good in
     omega arith
 
-pub ranged_word : (light : Light) (l : Millis) → LightGood light → light ≡ Of l → light_word l.0 ≡ light
+pub ranged_word : (light : Option Millis) (l : Millis) → LightGood light → light ≡ Some l → light_word l.0 ≡ light
 unfolding most_light unranged
 ranged_word light l good e =
     let most : l.0 ≤ most_light = subst LightGood e good in
     sym (word_ranged l.0 (λ z. omega arith)) ∙ sym e
 
-pub unranged_word : (light : Light) → light ≡ Unranged → light_word unranged ≡ light
+pub unranged_word : (light : Option Millis) → light ≡ None → light_word unranged ≡ light
 unranged_word light e = sym (word_unranged unranged refl) ∙ sym e
 
 -- the contact in a row of the plan
@@ -72,7 +71,7 @@ unfolding Each plan_of
 row_good contacts m ranges n plan k h c e =
     subst GoodContact (row_at contacts m k h ∙ sym e) (plan.valid.contacts_good blank k (row_below contacts m k h))
 
-pub light_in_range : (contacts : List ℕ) (m : ℕ) (ranges : List ℕ) (n : ℕ) → IsPlan contacts m ranges n → (c : Contact) (light : Light)
+pub light_in_range : (contacts : List ℕ) (m : ℕ) (ranges : List ℕ) (n : ℕ) → IsPlan contacts m ranges n → (c : Contact) (light : Option Millis)
     → light ≡ light_of (rows_from (range_at ranges) 0 n) c → LightGood light
 unfolding plan_of
 light_in_range contacts m ranges n plan c light e = subst LightGood (sym e) (light_good (plan_of contacts m ranges n) plan.valid c)
@@ -136,7 +135,7 @@ module _ (contacts : List ℕ) (rs : List Range) (lights lefts : List ℕ) (k wo
     left = get_or-set_other lefts k j left 0 (omega arith) ∙ b.left;
   }
 
-  module _ (lights_room : k < length lights) (lefts_room : k < length lefts) (c : Contact) (light : Light) (ec : c ≡ contact_at contacts k)
+  module _ (lights_room : k < length lights) (lefts_room : k < length lefts) (c : Contact) (light : Option Millis) (ec : c ≡ contact_at contacts k)
       (el : light ≡ light_of rs c) (ew : light_word word ≡ light) (ef : left ≡ volume c) where
     beside_there : Beside contacts rs (set lights k word) (set lefts k left) k
     beside_there = record {
@@ -160,13 +159,13 @@ module _ (contacts : List ℕ) (m : ℕ) (ranges : List ℕ) (n : ℕ) (lights l
       rows : List Contact
       rows = rows_from (contact_at contacts) 0 m
 
-      light : Contact → Light
+      light : Contact → Option Millis
       light = light_of (rows_from (range_at ranges) 0 n)
 
       lights_held : rows_from (light_at lights) 0 m ≡ map light rows
       lights_held =
-          rows_are (light_at lights) m (map light rows) Unranged (length-map rows light ∙ length_rows (contact_at contacts) 0 m)
-          (λ k h. (all k h).light ∙ sym (get_d_mapped light rows k blank Unranged (row_below contacts m k h) ∙ ap light (row_at contacts m k h)))
+          rows_are (light_at lights) m (map light rows) None (length-map rows light ∙ length_rows (contact_at contacts) 0 m)
+          (λ k h. (all k h).light ∙ sym (get_d_mapped light rows k blank None (row_below contacts m k h) ∙ ap light (row_at contacts m k h)))
 
       lefts_held : rows_from (left_at lefts) 0 m ≡ lefts_from unused 1 rows
       lefts_held =

@@ -6,17 +6,16 @@
 --     service_of                      a plan as it serves an ask, where so many bytes of each contact are used
 --     Sound                          every contact good, every light time in its range
 -- Assumes nothing.
-use Rattle.std.specs.Prelude.{◌≡◌, List, [], ◌∷◌, map, ℕ, suc, ◌-◌, ◌*◌, ◌/◌, ◌≤◌, ℤ, pos, ◌-ℤ◌, length, get_or}
+use Rattle.std.specs.Prelude.{◌≡◌, List, [], ◌∷◌, map, ℕ, suc, ◌-◌, ◌*◌, ◌/◌, ◌≤◌, ℤ, pos, ◌-ℤ◌, length, get_or, Option, Some, None}
 use Rattle.units.specs.Limits.{most_contacts, most_light}
 use Rattle.plan.specs.declared.rows.Contact.{Contact}
-use Rattle.plan.specs.declared.light.Light.{Light}
-use Rattle.plan.specs.declared.light.Light.TheVariants.{Of, Unranged}
+use Rattle.units.specs.declared.Millis.{Millis}
 use Rattle.plan.specs.Light.{light_of}
 use Rattle.plan.specs.Plan.{Plan, GoodContact, Each}
 
 pub record Service : Type 0 where
   pub contacts : List Contact
-  pub lights : List Light
+  pub lights : List (Option Millis)
   pub lefts : List ℕ
 
 -- a contact that stands nowhere, for numbers that name none
@@ -28,8 +27,8 @@ abbrev pub contact_of : Service → ℕ → Contact
 contact_of s c = get_or s.contacts (c - 1) blank
 
 -- its light time, or none
-abbrev pub light_in : Service → ℕ → Light
-light_in s c = get_or s.lights (c - 1) Unranged
+abbrev pub light_in : Service → ℕ → Option Millis
+light_in s c = get_or s.lights (c - 1) None
 
 -- the bytes that are left on it
 abbrev pub left_in : Service → ℕ → ℕ
@@ -65,9 +64,9 @@ pub record InPlan (s : Service) (c : ℕ) : Type 0 where
 
 -- ---- what functions inside the calls require: a reader of the promises may skip it
 
-abbrev pub LightGood : Light → Type 0
-LightGood (Of l) = l.0 ≤ most_light
-LightGood Unranged = Unit {0}
+abbrev pub LightGood : Option Millis → Type 0
+LightGood (Some l) = l.0 ≤ most_light
+LightGood None = Unit {0}
 
 pub record Sound (s : Service) : Type 0 where
   pub contacts_most : length s.contacts ≤ most_contacts

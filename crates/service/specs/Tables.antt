@@ -4,9 +4,8 @@
 --     served               the service that the three tables hold
 --     IsService            they hold a sound one
 -- Assumes nothing.
-use Rattle.std.specs.Prelude.{Bool, true, false, List, ℕ, ◌*◌, ◌≤◌, eqb, length, get_or}
-use Rattle.plan.specs.declared.light.Light.{Light}
-use Rattle.plan.specs.declared.light.Light.TheVariants.{Of, Unranged}
+use Rattle.std.specs.Prelude.{cond, Bool, true, false, List, ℕ, ◌*◌, ◌≤◌, eqb, length, get_or, Option, Some, None}
+use Rattle.units.specs.declared.Millis.{Millis}
 use Rattle.plan.specs.Tables.{words, contact_at, rows_from}
 use Rattle.service.specs.Service.{Service, Sound}
 
@@ -14,15 +13,11 @@ use Rattle.service.specs.Service.{Service, Sound}
 unfoldable pub unranged : ℕ
 unranged = 4_294_967_295
 
-abbrev pub pick_light : Bool → Light → Light → Light
-pick_light true a b = a
-pick_light false a b = b
-
 -- the light time that a word stands for
-unfoldable pub light_word : ℕ → Light
-light_word w = pick_light (eqb w unranged) Unranged (Of (record { 0 = w }))
+unfoldable pub light_word : ℕ → Option Millis
+light_word w = cond (eqb w unranged) None (Some (record { 0 = w }))
 
-abbrev pub light_at : List ℕ → ℕ → Light
+abbrev pub light_at : List ℕ → ℕ → Option Millis
 light_at lights k = light_word (get_or lights k 0)
 
 abbrev pub left_at : List ℕ → ℕ → ℕ

@@ -10,7 +10,7 @@ ghost use Rattle.service.specs.Service.{volume, service_of, unused, LightGood};
 ghost use Rattle.service.specs.Tables.{light_word, served};
 
 use crate::tables::UNRANGED;
-use plan::{Contact, Light, contact_row};
+use plan::{Contact, contact_row};
 use plan_light::light_kept;
 use plan_lists::{BLANK, MOST_ROWS, SLOTS, link};
 
@@ -27,13 +27,13 @@ fn volume_of(c: Contact) -> u64
 }
 
 // The word that stands for the light time.
-fn word_of(light: Light) -> u32
+fn word_of(light: Option<Millis>) -> u32
     requires { LightGood light }
     ensures { light_word result ≡ light }
 {
     match light {
-        Light::Of(l) => l.0 as u32,
-        Light::Unranged => UNRANGED,
+        Some(l) => l.0 as u32,
+        None => UNRANGED,
     }
 }
 

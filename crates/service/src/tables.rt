@@ -3,7 +3,6 @@
 ghost use Rattle.std.specs.Prelude.{◌≡◌, ◌-◌, ◌≤◌, length};
 ghost use Rattle.service.specs.Tables.{light_word, light_at, left_at};
 
-use plan::Light;
 use units::{ContactNo, Millis};
 
 // The words of tables that are not filled yet. Their bytes are not all the same, so that an array is filled
@@ -16,18 +15,18 @@ pub const BLANK_LEFT: u64 = 1;
 pub const UNRANGED: u32 = 4_294_967_295;
 
 // The light time that a word stands for.
-fn light_of(word: u32) -> Light
+fn light_of(word: u32) -> Option<Millis>
     ensures { result ≡ light_word word }
 {
     if word == UNRANGED {
-        Light::Unranged
+        None
     } else {
-        Light::Of(Millis(word as u64))
+        Some(Millis(word as u64))
     }
 }
 
 // The light time of the contact of that number, or none.
-pub fn light_numbered(lights: &[u32], no: ContactNo) -> Light
+pub fn light_numbered(lights: &[u32], no: ContactNo) -> Option<Millis>
     requires { (1 ≤ no.0) × (no.0 ≤ length lights.now) }
     ensures { result ≡ light_at lights.now (no.0 - 1) }
 {

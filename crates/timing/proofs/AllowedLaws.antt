@@ -16,12 +16,10 @@ use lib.ListN.{length, get_or}
 use Rattle.units.specs.declared.Ask.{Ask}
 use Rattle.units.specs.declared.Millis.{Millis}
 use Rattle.plan.specs.declared.rows.Contact.{Contact}
-use Rattle.plan.specs.declared.light.Light.{Light}
-use Rattle.plan.specs.declared.light.Light.TheVariants.{Of}
+use Rattle.std.specs.Prelude.{Option, Some, None}
 use Rattle.plan.specs.Verdict.{Verdict, holds, fails}
 use Rattle.plan.proofs.Verdicts.{tells_le}
 use Rattle.service.specs.Service.{Service, contact_of, light_in, left_in, InPlan}
-use Rattle.timing.specs.declared.arrival.Arrival.TheVariants.{Ready}
 use Rattle.timing.specs.Chain.{Carries, stays, hops, Allowed}
 use Rattle.timing.specs.Hop.{consumed, sent, start_on, hopped, is_excluded}
 use Rattle.timing.proofs.Barred.{ToExcluded, unbarred_exactly}
@@ -50,27 +48,27 @@ later_one {a} {b} {r} {s} x y =
 
 -- the contact is ranged; the file starts at the later of ready and the contact's start, is sent by its end and takes no more than what is left on it;
 -- it is ready at the receiving node at start plus sending time plus light time
-pub record SentOver (light : Light) (left : ℕ) (c : Contact) (size t s : ℕ) : Type 0 where
+pub record SentOver (light : Option Millis) (left : ℕ) (c : Contact) (size t s : ℕ) : Type 0 where
   pub light_time : Millis
-  pub ranged : light ≡ Of light_time
+  pub ranged : light ≡ Some light_time
   pub start : ℕ
   pub starts : IsLater t c.start.0 start
   pub by_end : start + sent size c.rate ≤ c.end.0
   pub by_volume : consumed size ≤ left
   pub ready : s ≡ start + sent size c.rate + light_time.0
 
-pub hop_exactly : (light : Light) (left : ℕ) (c : Contact) (size t s : ℕ)
-    → (hopped light left c size t ≡ Ready (record { 0 = s })) ↔ SentOver light left c size t s
+pub hop_exactly : (light : Option Millis) (left : ℕ) (c : Contact) (size t s : ℕ)
+    → (hopped light left c size t ≡ Some (record { 0 = s })) ↔ SentOver light left c size t s
 hop_exactly light left c size t s = (λ e. told (hop_told light left c size t (record { 0 = s }) e), made)
   where
-    told : {l : Light} → Hops left c size t l s → SentOver l left c size t s
+    told : {l : Option Millis} → Hops left c size t l s → SentOver l left c size t s
     told (over {l} f b e) = record { light_time = l; ranged = refl; start = start_on c t; starts = start_later c t; by_end = f; by_volume = b; ready = e }
 
-    made : SentOver light left c size t s → hopped light left c size t ≡ Ready (record { 0 = s })
+    made : SentOver light left c size t s → hopped light left c size t ≡ Some (record { 0 = s })
     made o =
         let at : start_on c t ≡ o.start = later_one (start_later c t) o.starts in
-        ap (λ (l : Light). hopped l left c size t) o.ranged
-        ∙ hop_made {light = Of o.light_time} (over (omega (arith, at, o.by_end)) o.by_volume (omega (arith, at, o.ready)))
+        ap (λ (l : Option Millis). hopped l left c size t) o.ranged
+        ∙ hop_made {light = Some o.light_time} (over (omega (arith, at, o.by_end)) o.by_volume (omega (arith, at, o.ready)))
 
 -- ---- a chain
 

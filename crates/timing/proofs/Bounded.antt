@@ -4,13 +4,13 @@
 -- Assumes nothing.
 use Prim.Native.Nat.{ℕ, ◌-◌}
 use native.Mathlib.Omega.{arith}
-use Rattle.plan.specs.declared.light.Light.TheVariants.{Unranged}
+use Rattle.std.specs.Prelude.{Some, None}
 use Rattle.plan.specs.Plan.{GoodContact, Each}
 use Rattle.service.specs.Service.{Service, Sound, LightGood, blank, contact_of, light_in, InPlan}
 
 pub light_good : (p : Service) → Sound p → (c : ℕ) → InPlan p c → LightGood (light_in p c)
 unfolding Each
-light_good p v c i = v.lights_good Unranged (c - 1) (omega (arith, i.least, i.most, v.lights_counted))
+light_good p v c i = v.lights_good None (c - 1) (omega (arith, i.least, i.most, v.lights_counted))
 
 pub contact_good : (p : Service) → Sound p → (c : ℕ) → InPlan p c → GoodContact (contact_of p c)
 unfolding Each

@@ -8,6 +8,7 @@
 --     step_bounded      behind a contact of a valid plan the file is ready at a time that has room in a word
 --     carry_goes, carry_stops, carry_ends, carry_misses      the chain from place i on, by what the contact there does
 -- Assumes nothing.
+use Rattle.std.specs.Prelude.{cond, Option, Some, None}
 use mathlib.Core.Bool.{Bool, true, false, not, ◌&&◌}
 use mathlib.Core.List.{List, ◌∷◌}
 use mathlib.Core.Path.{◌≡◌, refl, sym, ap, ◌∙◌, subst}
@@ -22,17 +23,13 @@ use lib.Seq.{drop-cons}
 use Rattle.units.specs.Limits.{last_time, most_light}
 use Rattle.units.specs.declared.Ask.{Ask}
 use Rattle.units.specs.declared.Millis.{Millis}
-use Rattle.plan.specs.declared.light.Light.{Light}
-use Rattle.plan.specs.declared.light.Light.TheVariants.{Unranged}
 use Rattle.plan.specs.declared.rows.Contact.{Contact}
 use Rattle.plan.specs.Plan.{GoodContact}
 use Rattle.plan.specs.Tables.{contact_at}
 use Rattle.plan.proofs.RowList.{length_rows, get_d_rows}
 use Rattle.service.specs.Service.{Service, Sound, LightGood, blank, contact_of, light_in, left_in, InPlan}
 use Rattle.service.specs.Tables.{light_at, left_at, served, IsService}
-use Rattle.timing.specs.declared.arrival.Arrival.{Arrival}
-use Rattle.timing.specs.declared.arrival.Arrival.TheVariants.{Ready, Never}
-use Rattle.timing.specs.Hop.{hopped, is_barred, pick_arrival}
+use Rattle.timing.specs.Hop.{hopped, is_barred}
 use Rattle.timing.specs.Model.{goes_on, over_contact, step_over, carry}
 use Rattle.timing.proofs.Bounded.{light_good, contact_good}
 use Rattle.timing.proofs.HopLaws.{hop_bounded}
@@ -52,7 +49,7 @@ module _ (contacts : List ℕ) (m : ℕ) (lights lefts : List ℕ) where
 
     pub light_lent : light_in (served contacts m lights lefts) c ≡ light_at lights (c - 1)
     unfolding served
-    light_lent = get_d_rows (light_at lights) 0 m (c - 1) Unranged named_below ∙ ap (light_at lights) (zero-add (c - 1))
+    light_lent = get_d_rows (light_at lights) 0 m (c - 1) None named_below ∙ ap (light_at lights) (zero-add (c - 1))
 
     pub left_lent : left_in (served contacts m lights lefts) c ≡ left_at lefts (c - 1)
     unfolding served
@@ -72,13 +69,13 @@ module _ (contacts : List ℕ) (m : ℕ) (lights lefts : List ℕ) (c : ℕ) whe
   light_named plan i = subst LightGood (light_lent contacts m lights lefts c i) (light_good (served contacts m lights lefts) plan.sound c i)
 
   -- a hop over the contact that stands in the row is a hop over the contact of the plan
-  pub over_lent : InPlan (served contacts m lights lefts) c → (ask : Ask) (t : ℕ) (x : Contact) (l : Light) (left : ℕ) (a : Arrival)
+  pub over_lent : InPlan (served contacts m lights lefts) c → (ask : Ask) (t : ℕ) (x : Contact) (l : Option Millis) (left : ℕ) (a : Option Millis)
       → x ≡ contact_at contacts (c - 1) → l ≡ light_at lights (c - 1) → left ≡ left_at lefts (c - 1) → a ≡ hopped l left x ask.size t
       → a ≡ over_contact (served contacts m lights lefts) ask c t
   unfolding over_contact
   over_lent i ask t x l left a ex el ef ea =
       ea
-      ∙ ap (λ (y : Light). hopped y left x ask.size t) (el ∙ sym (light_lent contacts m lights lefts c i))
+      ∙ ap (λ (y : Option Millis). hopped y left x ask.size t) (el ∙ sym (light_lent contacts m lights lefts c i))
       ∙ ap (λ (y : ℕ). hopped (light_in (served contacts m lights lefts) c) y x ask.size t) (ef ∙ sym (left_lent contacts m lights lefts c i))
       ∙ ap (λ (y : Contact). hopped (light_in (served contacts m lights lefts) c) (left_in (served contacts m lights lefts) c) y ask.size t) (ex ∙ sym (contact_lent contacts m lights lefts c i))
 
@@ -113,57 +110,57 @@ goes_in_plan p ask u c e =
     record { least = leb-true 1 c named.0; most = leb-true c (length p.contacts) named.1 }
 
 -- the way that a step went
-data Stepped (p : Service) (ask : Ask) (u t c : ℕ) (a : Arrival) : Type 0 where
+data Stepped (p : Service) (ask : Ask) (u t c : ℕ) (a : Option Millis) : Type 0 where
   went : goes_on p ask u c ≡ true → over_contact p ask c t ≡ a → Stepped p ask u t c a
-  stayed : goes_on p ask u c ≡ false → Never ≡ a → Stepped p ask u t c a
+  stayed : goes_on p ask u c ≡ false → None ≡ a → Stepped p ask u t c a
 
-stepped : (p : Service) (ask : Ask) (u t c : ℕ) (a : Arrival) → step_over p ask u t c ≡ a → Stepped p ask u t c a
+stepped : (p : Service) (ask : Ask) (u t c : ℕ) (a : Option Millis) → step_over p ask u t c ≡ a → Stepped p ask u t c a
 unfolding step_over
 stepped p ask u t c a = go (goes_on p ask u c) refl
   where
-    go : (b : Bool) → goes_on p ask u c ≡ b → pick_arrival b (over_contact p ask c t) Never ≡ a → Stepped p ask u t c a
+    go : (b : Bool) → goes_on p ask u c ≡ b → cond b (over_contact p ask c t) None ≡ a → Stepped p ask u t c a
     go true e f = went e f
     go false e f = stayed e f
 
-pub step_goes : (p : Service) (ask : Ask) (u t c : ℕ) (a : Arrival) → goes_on p ask u c ≡ true → a ≡ over_contact p ask c t → a ≡ step_over p ask u t c
+pub step_goes : (p : Service) (ask : Ask) (u t c : ℕ) (a : Option Millis) → goes_on p ask u c ≡ true → a ≡ over_contact p ask c t → a ≡ step_over p ask u t c
 unfolding step_over
 step_goes p ask u t c a g o = rw g o
 
-pub step_stays : (p : Service) (ask : Ask) (u t c : ℕ) → goes_on p ask u c ≡ false → Never ≡ step_over p ask u t c
+pub step_stays : (p : Service) (ask : Ask) (u t c : ℕ) → goes_on p ask u c ≡ false → None ≡ step_over p ask u t c
 unfolding step_over
 step_stays p ask u t c g = rw g
 
-pub steps_in_plan : (p : Service) (ask : Ask) (u t c : ℕ) (s : Millis) → step_over p ask u t c ≡ Ready s → InPlan p c
-steps_in_plan p ask u t c s e = go (stepped p ask u t c (Ready s) e)
+pub steps_in_plan : (p : Service) (ask : Ask) (u t c : ℕ) (s : Millis) → step_over p ask u t c ≡ Some s → InPlan p c
+steps_in_plan p ask u t c s e = go (stepped p ask u t c (Some s) e)
   where
-    go : Stepped p ask u t c (Ready s) → InPlan p c
+    go : Stepped p ask u t c (Some s) → InPlan p c
     go (went g o) = goes_in_plan p ask u c g
     go (stayed g o) = let z : ◌≡◌ {A = ℕ} 0 1 = cc in absurd (omega arith)
 
-pub step_bounded : (p : Service) → Sound p → (ask : Ask) (u t c : ℕ) (s : Millis) → step_over p ask u t c ≡ Ready s → s.0 ≤ last_time + most_light
+pub step_bounded : (p : Service) → Sound p → (ask : Ask) (u t c : ℕ) (s : Millis) → step_over p ask u t c ≡ Some s → s.0 ≤ last_time + most_light
 unfolding over_contact
-step_bounded p v ask u t c s e = go (stepped p ask u t c (Ready s) e)
+step_bounded p v ask u t c s e = go (stepped p ask u t c (Some s) e)
   where
-    go : Stepped p ask u t c (Ready s) → s.0 ≤ last_time + most_light
+    go : Stepped p ask u t c (Some s) → s.0 ≤ last_time + most_light
     go (went g o) =
         let i = goes_in_plan p ask u c g in
         omega (arith, (contact_good p v c i).ends, hop_bounded (light_in p c) (left_in p c) (contact_of p c) (light_good p v c i) ask.size t s o)
     go (stayed g o) = let z : ◌≡◌ {A = ℕ} 0 1 = cc in absurd (omega arith)
 
-carry_ready : (p : Service) (ask : Ask) (u t c : ℕ) (cs : List ℕ) (s : Millis) → step_over p ask u t c ≡ Ready s
+carry_ready : (p : Service) (ask : Ask) (u t c : ℕ) (cs : List ℕ) (s : Millis) → step_over p ask u t c ≡ Some s
     → carry p ask u t (c ∷ cs) ≡ carry p ask (contact_of p c).to.0 s.0 cs
 unfolding carry
-carry_ready p ask u t c cs s e = go (stepped p ask u t c (Ready s) e)
+carry_ready p ask u t c cs s e = go (stepped p ask u t c (Some s) e)
   where
-    go : Stepped p ask u t c (Ready s) → carry p ask u t (c ∷ cs) ≡ carry p ask (contact_of p c).to.0 s.0 cs
+    go : Stepped p ask u t c (Some s) → carry p ask u t (c ∷ cs) ≡ carry p ask (contact_of p c).to.0 s.0 cs
     go (went g o) = rw (g, o)
     go (stayed g o) = cc
 
-carry_unready : (p : Service) (ask : Ask) (u t c : ℕ) (cs : List ℕ) → step_over p ask u t c ≡ Never → carry p ask u t (c ∷ cs) ≡ Never
+carry_unready : (p : Service) (ask : Ask) (u t c : ℕ) (cs : List ℕ) → step_over p ask u t c ≡ None → carry p ask u t (c ∷ cs) ≡ None
 unfolding carry
-carry_unready p ask u t c cs e = go (stepped p ask u t c Never e)
+carry_unready p ask u t c cs e = go (stepped p ask u t c None e)
   where
-    go : Stepped p ask u t c Never → carry p ask u t (c ∷ cs) ≡ Never
+    go : Stepped p ask u t c None → carry p ask u t (c ∷ cs) ≡ None
     go (went g o) = rw (g, o)
     go (stayed g o) = rw g
 
@@ -172,25 +169,25 @@ from_place : (chain : List ℕ) (i : ℕ) → i < length chain → drop i chain 
 from_place chain i h = drop-cons chain i 0 h ∙ ap (λ (k : ℕ). get_or chain i 0 ∷ drop k chain) (sym (add-one i))
 
 module _ (p : Service) (ask : Ask) (u t : ℕ) (chain : List ℕ) (i : ℕ) where
-  pub carry_goes : (s : Millis) → i < length chain → step_over p ask u t (get_or chain i 0) ≡ Ready s
+  pub carry_goes : (s : Millis) → i < length chain → step_over p ask u t (get_or chain i 0) ≡ Some s
       → carry p ask u t (drop i chain) ≡ carry p ask (contact_of p (get_or chain i 0)).to.0 s.0 (drop (i + 1) chain)
   carry_goes s h e = ap (carry p ask u t) (from_place chain i h) ∙ carry_ready p ask u t (get_or chain i 0) (drop (i + 1) chain) s e
 
-  pub carry_stops : i < length chain → step_over p ask u t (get_or chain i 0) ≡ Never → carry p ask u t (drop i chain) ≡ Never
+  pub carry_stops : i < length chain → step_over p ask u t (get_or chain i 0) ≡ None → carry p ask u t (drop i chain) ≡ None
   carry_stops h e = ap (carry p ask u t) (from_place chain i h) ∙ carry_unready p ask u t (get_or chain i 0) (drop (i + 1) chain) e
 
-  pub carry_ends : length chain ≤ i → u ≡ ask.destination.0 → carry p ask u t (drop i chain) ≡ Ready (record { 0 = t })
+  pub carry_ends : length chain ≤ i → u ≡ ask.destination.0 → carry p ask u t (drop i chain) ≡ Some (record { 0 = t })
   unfolding carry
   carry_ends h e = ap (carry p ask u t) (drop_of_length-le chain h) ∙ rw (eq-eqb u ask.destination.0 e)
 
-  pub carry_misses : length chain ≤ i → (u ≡ ask.destination.0 → ⊥) → carry p ask u t (drop i chain) ≡ Never
+  pub carry_misses : length chain ≤ i → (u ≡ ask.destination.0 → ⊥) → carry p ask u t (drop i chain) ≡ None
   unfolding carry
   carry_misses h e = ap (carry p ask u t) (drop_of_length-le chain h) ∙ rw (ne_eqb u ask.destination.0 e)
 
 -- the step on along a chain, where the contact was read from its row
 pub carry_lent : (contacts : List ℕ) (m : ℕ) (lights lefts : List ℕ) (ask : Ask) (u t : ℕ) (chain : List ℕ) (i : ℕ) (s : Millis) (x : Contact)
     → i < length chain
-    → step_over (served contacts m lights lefts) ask u t (get_or chain i 0) ≡ Ready s
+    → step_over (served contacts m lights lefts) ask u t (get_or chain i 0) ≡ Some s
     → x ≡ contact_at contacts (get_or chain i 0 - 1)
     → carry (served contacts m lights lefts) ask u t (drop i chain) ≡ carry (served contacts m lights lefts) ask x.to.0 s.0 (drop (i + 1) chain)
 carry_lent contacts m lights lefts ask u t chain i s x h e ex =

@@ -7,6 +7,7 @@
 --     tells_not                            the test that a test fails
 --     allowed_delivery, allowed_never, allowed_determined      the same of an allowed chain
 -- Assumes nothing.
+use Rattle.std.specs.Prelude.{cond, Option, Some, None}
 use mathlib.Core.Bool.{Bool, true, false, not}
 use mathlib.Core.List.{List, [], ◌∷◌}
 use mathlib.Core.Logic.{◌↔◌}
@@ -21,15 +22,13 @@ use Rattle.units.specs.declared.Millis.{Millis}
 use Rattle.plan.specs.Verdict.{Verdict, holds, fails}
 use Rattle.plan.proofs.Verdicts.{tells_le, tells_eq, both, restated, holds_true}
 use Rattle.service.specs.Service.{Service, Sound, contact_of, InPlan}
-use Rattle.timing.specs.declared.arrival.Arrival.{Arrival}
-use Rattle.timing.specs.declared.arrival.Arrival.TheVariants.{Ready, Never}
 use Rattle.timing.specs.Chain.{Carries, stays, hops, Allowed, ask_at, ask_of}
-use Rattle.timing.specs.Hop.{pick_arrival, is_barred}
+use Rattle.timing.specs.Hop.{is_barred}
 use Rattle.timing.specs.Model.{goes_on, over_contact, onward, carry, delivery_of}
 use Rattle.timing.proofs.Bounded.{contact_good}
 use Rattle.timing.proofs.HopLaws.{hop_after, hop_sooner, hop_smaller}
 
-same_ready : {x : Arrival} {a b : Millis} → x ≡ Ready a → x ≡ Ready b → a.0 ≡ b.0
+same_ready : {x : Option Millis} {a b : Millis} → x ≡ Some a → x ≡ Some b → a.0 ≡ b.0
 same_ready e f = cc
 
 module _ {p : Service} {ask : Ask} where
@@ -87,39 +86,39 @@ from_tells p ask u c =
     (both (both (both (tells_le 1 c) (tells_le c (length p.contacts))) (tells_eq (contact_of p c).from.0 u)) (tells_not (is_barred ask (contact_of p c))))
 
 module _ (p : Service) (ask : Ask) where
-  pub carry_sound : (u t : ℕ) (cs : List ℕ) (r : Millis) → carry p ask u t cs ≡ Ready r → Carries p ask u t cs ask.destination.0 r.0
+  pub carry_sound : (u t : ℕ) (cs : List ℕ) (r : Millis) → carry p ask u t cs ≡ Some r → Carries p ask u t cs ask.destination.0 r.0
   unfolding carry
   carry_sound u t [] r e = go (eqb u ask.destination.0) (tells_eq _ _) e
     where
-      go : (b : Bool) → Verdict (u ≡ ask.destination.0) b → pick_arrival b (Ready (record { 0 = t })) Never ≡ Ready r
+      go : (b : Bool) → Verdict (u ≡ ask.destination.0) b → cond b (Some (record { 0 = t })) None ≡ Some r
           → Carries p ask u t [] ask.destination.0 r.0
       go _ (holds h) e = let q : t ≡ r.0 = cc in subst₂ (λ v s. Carries p ask u t [] v s) h q stays
       go _ (fails h) e = let z : ◌≡◌ {A = ℕ} 0 1 = cc in absurd (omega arith)
   carry_sound u t (c ∷ cs) r e =
       go (goes_on p ask u c) (from_tells p ask u c) (over_contact p ask c t) refl (λ s. carry_sound (contact_of p c).to.0 s cs r) e
     where
-      go : (b : Bool) → Verdict (From p ask u c) b → (a : Arrival) → over_contact p ask c t ≡ a
-          → ((s : ℕ) → carry p ask (contact_of p c).to.0 s cs ≡ Ready r → Carries p ask (contact_of p c).to.0 s cs ask.destination.0 r.0)
-          → pick_arrival b (onward a (λ s. carry p ask (contact_of p c).to.0 s cs)) Never ≡ Ready r
+      go : (b : Bool) → Verdict (From p ask u c) b → (a : Option Millis) → over_contact p ask c t ≡ a
+          → ((s : ℕ) → carry p ask (contact_of p c).to.0 s cs ≡ Some r → Carries p ask (contact_of p c).to.0 s cs ask.destination.0 r.0)
+          → cond b (onward a (λ s. carry p ask (contact_of p c).to.0 s cs)) None ≡ Some r
           → Carries p ask u t (c ∷ cs) ask.destination.0 r.0
-      go _ (holds h) (Ready s) q next e = hops h.in_plan h.from h.unbarred q (next s.0 e)
-      go _ (holds h) Never q next e = let z : ◌≡◌ {A = ℕ} 0 1 = cc in absurd (omega arith)
+      go _ (holds h) (Some s) q next e = hops h.in_plan h.from h.unbarred q (next s.0 e)
+      go _ (holds h) None q next e = let z : ◌≡◌ {A = ℕ} 0 1 = cc in absurd (omega arith)
       go _ (fails h) a q next e = let z : ◌≡◌ {A = ℕ} 0 1 = cc in absurd (omega arith)
 
-  carry_there : {u t : ℕ} {cs : List ℕ} {v r : ℕ} → v ≡ ask.destination.0 → Carries p ask u t cs v r → carry p ask u t cs ≡ Ready (record { 0 = r })
+  carry_there : {u t : ℕ} {cs : List ℕ} {v r : ℕ} → v ≡ ask.destination.0 → Carries p ask u t cs v r → carry p ask u t cs ≡ Some (record { 0 = r })
   unfolding carry
   carry_there e stays = rw (holds_true (tells_eq _ _) e)
   carry_there e (hops {u} {c} i f b h k) =
       rw (holds_true (from_tells p ask u c) (record { in_plan = i; from = f; unbarred = b }), h) (carry_there e k)
 
-  pub carry_complete : {u t : ℕ} {cs : List ℕ} {r : ℕ} → Carries p ask u t cs ask.destination.0 r → carry p ask u t cs ≡ Ready (record { 0 = r })
+  pub carry_complete : {u t : ℕ} {cs : List ℕ} {r : ℕ} → Carries p ask u t cs ask.destination.0 r → carry p ask u t cs ≡ Some (record { 0 = r })
   carry_complete k = carry_there refl k
 
-  pub carry_never : {u t : ℕ} {cs : List ℕ} {r : ℕ} → carry p ask u t cs ≡ Never → Carries p ask u t cs ask.destination.0 r → ⊥
+  pub carry_never : {u t : ℕ} {cs : List ℕ} {r : ℕ} → carry p ask u t cs ≡ None → Carries p ask u t cs ask.destination.0 r → ⊥
   carry_never e k = let d = carry_complete k in let z : ◌≡◌ {A = ℕ} 0 1 = cc in omega arith
 
   pub allowed_delivery : (ask.source.0 ≡ ask.destination.0 → ⊥) → (chain : List ℕ) (r : Millis)
-      → (delivery_of p ask chain ≡ Ready r) ↔ Allowed p ask chain r.0
+      → (delivery_of p ask chain ≡ Some r) ↔ Allowed p ask chain r.0
   unfolding delivery_of
   allowed_delivery differ chain r = (
     λ e.
@@ -128,7 +127,7 @@ module _ (p : Service) (ask : Ask) where
     λ a. carry_complete a.carried,
   )
 
-  pub allowed_never : {chain : List ℕ} {r : ℕ} → delivery_of p ask chain ≡ Never → Allowed p ask chain r → ⊥
+  pub allowed_never : {chain : List ℕ} {r : ℕ} → delivery_of p ask chain ≡ None → Allowed p ask chain r → ⊥
   unfolding delivery_of
   allowed_never e a = carry_never e a.carried
 

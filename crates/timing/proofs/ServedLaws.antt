@@ -14,8 +14,7 @@ use lib.Signed.{◌≤ℤ◌}
 use Rattle.units.specs.declared.Ask.{Ask}
 use Rattle.units.specs.declared.Millis.{Millis}
 use Rattle.plan.specs.declared.rows.Contact.{Contact}
-use Rattle.plan.specs.declared.light.Light.{Light}
-use Rattle.plan.specs.declared.light.Light.TheVariants.{Of}
+use Rattle.std.specs.Prelude.{Option, Some, None}
 use Rattle.plan.specs.Light.{HasLight}
 use Rattle.plan.specs.Plan.{Plan, Valid}
 use Rattle.plan.proofs.Ranging.{has_light_determined}
@@ -41,7 +40,7 @@ pub record Serves (p : Plan) (used : ℕ → ℕ) (ask : Ask) (u t c s : ℕ) : 
   pub joined : (row_of p c).from.0 ≡ u
   pub unexcluded : ToExcluded ask (row_of p c) → ⊥
   pub light : Millis
-  pub has_light : HasLight p.ranges (row_of p c) (Of light)
+  pub has_light : HasLight p.ranges (row_of p c) (Some light)
   pub start : ℕ
   pub starts : IsLater t (row_of p c).start.0 start
   pub by_end : start + sent ask.size (row_of p c).rate ≤ (row_of p c).end.0
@@ -62,7 +61,7 @@ module _ (p : Plan) (valid : Valid p) (used : ℕ → ℕ) (ask : Ask) (some_byt
       unexcluded = g.unexcluded;
       light = g.over.light_time;
       has_light =
-          subst (λ (l : Light). HasLight p.ranges (row_of p c) l) g.over.ranged (service_has_light p valid used c g.in_plan);
+          subst (λ (l : Option Millis). HasLight p.ranges (row_of p c) l) g.over.ranged (service_has_light p valid used c g.in_plan);
       start = g.over.start;
       starts = g.over.starts;
       by_end = g.over.by_end;

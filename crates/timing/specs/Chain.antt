@@ -2,10 +2,9 @@
 --     Carries         a chain carries the file from a node and a time to a node and a time
 --     Allowed         it is allowed for an ask, and when it delivers; InTime
 -- Assumes nothing.
-use Rattle.std.specs.Prelude.{false, List, [], ◌∷◌, ◌≡◌, ℕ, ◌≤◌, ◌<◌, length}
+use Rattle.std.specs.Prelude.{false, List, [], ◌∷◌, ◌≡◌, ℕ, ◌≤◌, ◌<◌, length, Some, None}
 use Rattle.units.specs.declared.Ask.{Ask}
 use Rattle.service.specs.Service.{Service, contact_of, light_in, left_in, InPlan}
-use Rattle.timing.specs.declared.arrival.Arrival.TheVariants.{Ready}
 use Rattle.timing.specs.Hop.{hopped, is_barred}
 
 -- The file, ready at node u at time t, is carried by the chain to node v and is ready there at time r: each contact is from the node where the
@@ -16,7 +15,7 @@ pub data Carries (p : Service) (ask : Ask) : ℕ → ℕ → List ℕ → ℕ �
       → InPlan p c
       → (contact_of p c).from.0 ≡ u
       → is_barred ask (contact_of p c) ≡ false
-      → hopped (light_in p c) (left_in p c) (contact_of p c) ask.size t ≡ Ready (record { 0 = s })
+      → hopped (light_in p c) (left_in p c) (contact_of p c) ask.size t ≡ Some (record { 0 = s })
       → Carries p ask (contact_of p c).to.0 s cs v r
       → Carries p ask u t (c ∷ cs) v r
 

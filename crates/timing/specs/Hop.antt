@@ -3,13 +3,10 @@
 --     hopped              when it is ready at the other end, if it is ready before the contact at t
 --     is_barred            the exclusion: a contact from the source to an excluded neighbour
 -- Assumes nothing.
-use Rattle.std.specs.Prelude.{Bool, true, false, ◌&&◌, ℕ, ◌+◌, ◌-◌, ◌*◌, ◌/◌, ◌%◌, ◌^◌, max, leb, eqb}
+use Rattle.std.specs.Prelude.{cond, Bool, true, false, ◌&&◌, ℕ, ◌+◌, ◌-◌, ◌*◌, ◌/◌, ◌%◌, ◌^◌, max, leb, eqb, Option, Some, None}
 use Rattle.units.specs.declared.Ask.{Ask}
 use Rattle.plan.specs.declared.rows.Contact.{Contact}
-use Rattle.plan.specs.declared.light.Light.{Light}
-use Rattle.plan.specs.declared.light.Light.TheVariants.{Of, Unranged}
-use Rattle.timing.specs.declared.arrival.Arrival.{Arrival}
-use Rattle.timing.specs.declared.arrival.Arrival.TheVariants.{Ready, Never}
+use Rattle.units.specs.declared.Millis.{Millis}
 
 -- n over d, rounded up: the least whole number that is enough (proofs/Rounding.antt)
 unfoldable pub rounded_up : ℕ → ℕ → ℕ
@@ -29,18 +26,14 @@ sent size rate = rounded_up (consumed size * 1000) rate
 abbrev pub start_on : Contact → ℕ → ℕ
 start_on c t = max t c.start.0
 
-abbrev pub pick_arrival : Bool → Arrival → Arrival → Arrival
-pick_arrival true a b = a
-pick_arrival false a b = b
-
 -- it fits if start plus sending time is at most the contact's end and its consumption is at most what is left on the contact; it is then ready at
 -- the other end at start plus sending time plus light time
-unfoldable pub hopped : Light → ℕ → Contact → ℕ → ℕ → Arrival
+unfoldable pub hopped : Option Millis → ℕ → Contact → ℕ → ℕ → Option Millis
 unfolding sent
-hopped (Of light) left c size t =
-    pick_arrival (leb (start_on c t + sent size c.rate) c.end.0 && leb (consumed size) left)
-    (Ready (record { 0 = start_on c t + sent size c.rate + light.0 })) Never
-hopped Unranged left c size t = Never
+hopped (Some light) left c size t =
+    cond (leb (start_on c t + sent size c.rate) c.end.0 && leb (consumed size) left)
+    (Some (record { 0 = start_on c t + sent size c.rate + light.0 })) None
+hopped None left c size t = None
 
 -- excluded neighbours are a number: 1 for node 1, 2 for node 2, 4 for node 3 and so on
 unfoldable pub is_excluded : ℕ → ℕ → Bool

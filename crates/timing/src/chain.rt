@@ -7,7 +7,6 @@ ghost use Rattle.service.specs.Tables.{IsService, served};
 ghost use Rattle.timing.specs.Hop.{is_excluded, is_barred};
 ghost use Rattle.timing.specs.Model.{goes_on, over_contact, step_over, delivery_of};
 
-use crate::arrival::Arrival;
 use crate::hop::hop_over;
 use plan::{Contact, contact_numbered};
 use service::{left_numbered, light_numbered};
@@ -63,7 +62,7 @@ pub fn over(
     ask: Ask,
     no: ContactNo,
     ready: Millis,
-) -> Arrival
+) -> Option<Millis>
     requires { IsService contacts.now contact_count lights.now lefts.now × InPlan (served contacts.now contact_count lights.now lefts.now) no.0 × (ask.size ≤ most_size) × (ready.0 ≤ last_time + most_light) }
     ensures { result ≡ over_contact (served contacts.now contact_count lights.now lefts.now) ask no.0 ready.0 }
 {
@@ -83,14 +82,14 @@ pub fn step(
     node: NodeNo,
     ready: Millis,
     no: ContactNo,
-) -> Arrival
+) -> Option<Millis>
     requires { IsService contacts.now contact_count lights.now lefts.now × (ask.size ≤ most_size) × (ready.0 ≤ last_time + most_light) }
     ensures { result ≡ step_over (served contacts.now contact_count lights.now lefts.now) ask node.0 ready.0 no.0 }
 {
     if goes_on(contacts, contact_count, lights, lefts, ask, node, no) {
         over(contacts, contact_count, lights, lefts, ask, no, ready)
     } else {
-        Arrival::Never
+        None
     }
 }
 
@@ -103,7 +102,7 @@ pub fn delivery(
     lefts: &[u64],
     ask: Ask,
     chain: &[u64],
-) -> Arrival
+) -> Option<Millis>
     requires { IsService contacts.now contact_count lights.now lefts.now × (ask.size ≤ most_size) × (ask.time.0 ≤ last_time) }
     ensures { result ≡ delivery_of (served contacts.now contact_count lights.now lefts.now) ask chain.now }
 {
@@ -113,16 +112,16 @@ pub fn delivery(
     while i < chain.len() {
         let no = ContactNo(chain[i]);
         let arrival = step(contacts, contact_count, lights, lefts, ask, node, ready, no);
-        let Arrival::Ready(t) = arrival else {
-            return Arrival::Never;
+        let Some(t) = arrival else {
+            return None;
         };
         ready = t;
         node = contact_numbered(contacts, no).to;
         i += 1;
     }
     if node.0 == ask.destination.0 {
-        Arrival::Ready(ready)
+        Some(ready)
     } else {
-        Arrival::Never
+        None
     }
 }

@@ -2,13 +2,11 @@
 ghost use Rattle.std.specs.Prelude.{◌≡◌, ◌+◌, ◌-◌, ◌≤◌, min, max};
 ghost use Rattle.units.specs.Limits.{most_size, most_rate, last_time, most_light};
 ghost use Rattle.plan.specs.Plan.{GoodContact};
-ghost use Rattle.plan.specs.declared.light.Light.TheVariants.{Of};
 ghost use Rattle.service.specs.Service.{LightGood};
 ghost use Rattle.timing.specs.Hop.{consumed, sent, hopped};
 ghost use Rattle.timing.specs.Model.{back_over};
 
-use crate::arrival::Arrival;
-use plan::{Contact, Light};
+use plan::Contact;
 use units::Millis;
 
 // The bytes that a file takes on a contact: its size, three for each whole hundred bytes of it, and three
@@ -58,36 +56,36 @@ fn done_at(c: Contact, size: u64, ready: Millis) -> Millis
 }
 
 // The hop over a contact that has a light time.
-fn hop_ranged(l: Millis, left: u64, c: Contact, size: u64, ready: Millis) -> Arrival
+fn hop_ranged(l: Millis, left: u64, c: Contact, size: u64, ready: Millis) -> Option<Millis>
     requires { (l.0 ≤ most_light) × GoodContact c × (size ≤ most_size) × (ready.0 ≤ last_time + most_light) }
-    ensures { result ≡ hopped (Of l) left c size ready.0 }
+    ensures { result ≡ hopped (Some l) left c size ready.0 }
 {
     let done = done_at(c, size, ready);
     if c.end.0 < done.0 {
-        return Arrival::Never;
+        return None;
     }
     if left < consumption(size) {
-        return Arrival::Never;
+        return None;
     }
-    Arrival::Ready(Millis(done.0 + l.0))
+    Some(Millis(done.0 + l.0))
 }
 
 // When the file is ready behind the contact, if it is ready before it at `ready` and so many bytes are
 // left on it.
-pub fn hop_over(light: Light, left: u64, c: Contact, size: u64, ready: Millis) -> Arrival
+pub fn hop_over(light: Option<Millis>, left: u64, c: Contact, size: u64, ready: Millis) -> Option<Millis>
     requires { LightGood light × GoodContact c × (size ≤ most_size) × (ready.0 ≤ last_time + most_light) }
     ensures { result ≡ hopped light left c size ready.0 }
 {
     match light {
-        Light::Of(l) => hop_ranged(l, left, c, size, ready),
-        Light::Unranged => Arrival::Never,
+        Some(l) => hop_ranged(l, left, c, size, ready),
+        None => None,
     }
 }
 
 // The step back over a contact that has a light time.
 fn back_ranged(l: Millis, left: u64, c: Contact, size: u64, limit: Millis) -> Millis
     requires { (l.0 ≤ most_light) × GoodContact c × (size ≤ most_size) }
-    ensures { result.0 ≡ back_over (Of l) left c size limit.0 }
+    ensures { result.0 ≡ back_over (Some l) left c size limit.0 }
 {
     let send = sending(size, c.rate).0;
     let by_end = less(c.end.0 + 1, send);
@@ -104,12 +102,12 @@ fn back_ranged(l: Millis, left: u64, c: Contact, size: u64, limit: Millis) -> Mi
 
 // The limit below which the file must be ready before the contact, so that it is ready behind it
 // below `limit`; 0 where it never is.
-pub fn back(light: Light, left: u64, c: Contact, size: u64, limit: Millis) -> Millis
+pub fn back(light: Option<Millis>, left: u64, c: Contact, size: u64, limit: Millis) -> Millis
     requires { LightGood light × GoodContact c × (size ≤ most_size) }
     ensures { result.0 ≡ back_over light left c size limit.0 }
 {
     match light {
-        Light::Of(l) => back_ranged(l, left, c, size, limit),
-        Light::Unranged => Millis(0),
+        Some(l) => back_ranged(l, left, c, size, limit),
+        None => Millis(0),
     }
 }

@@ -2,10 +2,8 @@
 
 #![tactic(auto)]
 
-mod arrival;
 mod chain;
 mod hop;
 
-pub use arrival::Arrival;
 pub use chain::{delivery, is_barred, over, step};
 pub use hop::{back, consumption, later, sending};

@@ -14,7 +14,8 @@ use lib.ListN.{length, get_or, take, drop, length-take, length-drop}
 use lib.Seq.{take_all, take-suc, take-add, get_or-take, get_or-drop}
 use Rattle.units.specs.declared.Ask.{Ask}
 use Rattle.plan.specs.declared.rows.Contact.{Contact}
-use Rattle.plan.specs.declared.light.Light.{Light}
+use Rattle.std.specs.Prelude.{Option}
+use Rattle.units.specs.declared.Millis.{Millis}
 use Rattle.plan.specs.Plan.{Each}
 use Rattle.plan.specs.Tables.{contact_at}
 use Rattle.service.specs.Service.{Service, light_in, left_in, InPlan}
@@ -25,12 +26,12 @@ use Rattle.walk.specs.Model.{limit_over, limit_before}
 use Rattle.timing.proofs.ChainCode.{contact_lent, light_lent, left_lent}
 use Rattle.walk.proofs.LastCallLaws.{limit_append}
 
-pub back_lent : (contacts : List ℕ) (m : ℕ) (lights lefts : List ℕ) (c : ℕ) → InPlan (served contacts m lights lefts) c → (size limit : ℕ) (x : Contact) (l : Light) (left r : ℕ)
+pub back_lent : (contacts : List ℕ) (m : ℕ) (lights lefts : List ℕ) (c : ℕ) → InPlan (served contacts m lights lefts) c → (size limit : ℕ) (x : Contact) (l : Option Millis) (left r : ℕ)
     → x ≡ contact_at contacts (c - 1) → l ≡ light_at lights (c - 1) → left ≡ left_at lefts (c - 1) → r ≡ back_over l left x size limit
     → r ≡ limit_over (served contacts m lights lefts) size c limit
 back_lent contacts m lights lefts c i size limit x l left r ex el ef er =
     er
-    ∙ ap (λ (y : Light). back_over y left x size limit) (el ∙ sym (light_lent contacts m lights lefts c i))
+    ∙ ap (λ (y : Option Millis). back_over y left x size limit) (el ∙ sym (light_lent contacts m lights lefts c i))
     ∙ ap (λ (y : ℕ). back_over (light_in (served contacts m lights lefts) c) y x size limit) (ef ∙ sym (left_lent contacts m lights lefts c i))
     ∙ ap (λ (y : Contact). back_over (light_in (served contacts m lights lefts) c) (left_in (served contacts m lights lefts) c) y size limit)
     (ex ∙ sym (contact_lent contacts m lights lefts c i))

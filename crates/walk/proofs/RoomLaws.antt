@@ -16,8 +16,8 @@ use Rattle.units.specs.declared.Ask.{Ask}
 use Rattle.plan.specs.Verdict.{Verdict, holds, fails}
 use Rattle.plan.proofs.Verdicts.{tells_le, tells_lt, both, restated}
 use Rattle.service.specs.Service.{Service, Sound}
-use Rattle.timing.specs.declared.arrival.Arrival.{Arrival}
-use Rattle.timing.specs.declared.arrival.Arrival.TheVariants.{Ready, Never}
+use Rattle.std.specs.Prelude.{Option, Some, None}
+use Rattle.units.specs.declared.Millis.{Millis}
 use Rattle.timing.specs.Chain.{Allowed, InTime, ask_of}
 use Rattle.walk.specs.Figures.{IsRoom}
 use Rattle.timing.specs.Model.{delivery_of}
@@ -30,12 +30,12 @@ in_time_tells : (p : Service) (ask : Ask) → (ask.source.0 ≡ ask.destination.
     → Verdict (InTime p ask chain) (is_before (delivery_of p ask chain) ask.deadline.0)
 in_time_tells p ask differ chain = go (delivery_of p ask chain) refl
   where
-    go : (a : Arrival) → delivery_of p ask chain ≡ a → Verdict (InTime p ask chain) (is_before a ask.deadline.0)
-    go (Ready r) e =
+    go : (a : Option Millis) → delivery_of p ask chain ≡ a → Verdict (InTime p ask chain) (is_before a ask.deadline.0)
+    go (Some r) e =
         let a = (allowed_delivery p ask differ chain r).0 e in
         restated (λ h. record { delivery = r.0; allowed = a; early = h }) (λ i. omega (arith, allowed_determined p ask a i.allowed, i.early))
         (tells_lt r.0 ask.deadline.0)
-    go Never e = fails (λ i. allowed_never p ask e i.allowed)
+    go None e = fails (λ i. allowed_never p ask e i.allowed)
 
 pub size_tells : (p : Service) (ask : Ask) → (ask.source.0 ≡ ask.destination.0 → ⊥) → (chain : List ℕ) (n : ℕ)
     → Verdict (InTime p (ask_of ask n) chain) (carries_size p ask chain n)

@@ -21,8 +21,8 @@ use Rattle.units.specs.Limits.{last_time, most_size}
 use Rattle.plan.specs.Verdict.{Verdict, holds, fails}
 use Rattle.plan.proofs.Verdicts.{tells_lt}
 use Rattle.service.specs.Service.{Service, Sound}
-use Rattle.timing.specs.declared.arrival.Arrival.{Arrival}
-use Rattle.timing.specs.declared.arrival.Arrival.TheVariants.{Ready, Never}
+use Rattle.std.specs.Prelude.{Option, Some, None}
+use Rattle.units.specs.declared.Millis.{Millis}
 use Rattle.walk.specs.declared.figures.Figures.{Figures}
 use Rattle.walk.specs.declared.figures.Walked.{Walked}
 use Rattle.walk.specs.declared.figures.Walked.TheVariants.{Carried, Refused}
@@ -117,9 +117,9 @@ module _ (p : Service) (ask : Ask) (chain : List ℕ) (valid : Sound p) (good : 
   walked_in_time _ a (holds h) = carried (has_figures a h)
   walked_in_time _ a (fails h) = too_late a (omega arith)
 
-  walked_of_lem : (a : Arrival) → delivery_of p ask chain ≡ a → WalksPlan p ask chain (walked_of p ask chain a)
-  walked_of_lem (Ready r) e = walked_in_time _ ((allowed_delivery p ask differ chain r).0 e) (tells_lt r.0 ask.deadline.0)
-  walked_of_lem Never e = turned_down (cause_tells p ask chain e)
+  walked_of_lem : (a : Option Millis) → delivery_of p ask chain ≡ a → WalksPlan p ask chain (walked_of p ask chain a)
+  walked_of_lem (Some r) e = walked_in_time _ ((allowed_delivery p ask differ chain r).0 e) (tells_lt r.0 ask.deadline.0)
+  walked_of_lem None e = turned_down (cause_tells p ask chain e)
 
   pub walk_model_walks : WalksPlan p ask chain (walk_model p ask chain)
   unfolding walk_model

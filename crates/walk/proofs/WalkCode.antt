@@ -20,7 +20,7 @@ use Rattle.plan.specs.Tables.{contact_at}
 use Rattle.plan.specs.Verdict.{Verdict}
 use Rattle.plan.proofs.Tests.{is_node_tells}
 use Rattle.plan.proofs.Verdicts.{tells_le, both, restated}
-use Rattle.timing.specs.declared.arrival.Arrival.TheVariants.{Ready, Never}
+use Rattle.std.specs.Prelude.{Some, None}
 use Rattle.walk.specs.declared.figures.Figures.{Figures}
 use Rattle.walk.specs.declared.figures.Walked.{Walked}
 use Rattle.walk.specs.declared.figures.Walked.TheVariants.{Carried, Refused}
@@ -62,15 +62,15 @@ module _ (p : Service) (ask : Ask) (chain : List ℕ) where
   unfolding figures_of
   figures_by d o l n eo el en = λ i. record { delivery = d; opens = record { 0 = eo i }; last_call = record { 0 = el i }; room = en i }
 
-  pub walk_never : (why : Refusal) → delivery_of p ask chain ≡ Never → why ≡ cause_of p ask chain → Refused why ≡ walk_model p ask chain
+  pub walk_never : (why : Refusal) → delivery_of p ask chain ≡ None → why ≡ cause_of p ask chain → Refused why ≡ walk_model p ask chain
   unfolding walk_model
   walk_never why e w = rw (e, w)
 
-  pub walk_late : (r : Millis) → delivery_of p ask chain ≡ Ready r → ask.deadline.0 ≤ r.0 → Refused TooLate ≡ walk_model p ask chain
+  pub walk_late : (r : Millis) → delivery_of p ask chain ≡ Some r → ask.deadline.0 ≤ r.0 → Refused TooLate ≡ walk_model p ask chain
   unfolding walk_model
   walk_late r e h = rw (e, le-ltb r.0 ask.deadline.0 h)
 
-  pub walk_carries : (r : Millis) (f : Figures) → delivery_of p ask chain ≡ Ready r → r.0 < ask.deadline.0 → f ≡ figures_of p ask chain r.0
+  pub walk_carries : (r : Millis) (f : Figures) → delivery_of p ask chain ≡ Some r → r.0 < ask.deadline.0 → f ≡ figures_of p ask chain r.0
       → Carried f ≡ walk_model p ask chain
   unfolding walk_model
   walk_carries r f e h ef = rw (e, lt-ltb r.0 ask.deadline.0 h, ef)

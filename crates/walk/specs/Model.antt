@@ -4,14 +4,13 @@
 --     room_from      the greatest size carried, found bit by bit
 --     walk_model     the answer
 -- Assumes nothing.
-use Rattle.std.specs.Prelude.{Bool, true, false, ◌&&◌, cond, List, [], ◌∷◌, ℕ, zero, suc, ◌+◌, ◌-◌, ◌^◌, leb, ltb, get_or}
+use Rattle.std.specs.Prelude.{Bool, true, false, ◌&&◌, cond, List, [], ◌∷◌, ℕ, zero, suc, ◌+◌, ◌-◌, ◌^◌, leb, ltb, get_or, Option, Some, None}
 use Rattle.units.specs.Limits.{last_time, most_size}
 use Rattle.units.specs.Model.{is_node}
 use Rattle.units.specs.declared.Ask.{Ask}
 use Rattle.units.specs.declared.Refusal.TheVariants.{TooLate}
 use Rattle.service.specs.Service.{Service, contact_of, light_in, left_in}
-use Rattle.timing.specs.declared.arrival.Arrival.{Arrival}
-use Rattle.timing.specs.declared.arrival.Arrival.TheVariants.{Ready, Never}
+use Rattle.units.specs.declared.Millis.{Millis}
 use Rattle.timing.specs.Chain.{ask_of}
 use Rattle.timing.specs.Hop.{start_on}
 use Rattle.timing.specs.Model.{back_over, delivery_of}
@@ -36,9 +35,9 @@ unfolding back_over
 limit_before p size [] limit = limit
 limit_before p size (c ∷ cs) limit = limit_over p size c (limit_before p size cs limit)
 
-abbrev pub is_before : Arrival → ℕ → Bool
-is_before (Ready s) limit = ltb s.0 limit
-is_before Never limit = false
+abbrev pub is_before : Option Millis → ℕ → Bool
+is_before (Some s) limit = ltb s.0 limit
+is_before None limit = false
 
 -- the chain carries a file of n bytes in time
 unfoldable pub carries_size : Service → Ask → List ℕ → ℕ → Bool
@@ -77,9 +76,9 @@ pick_walked true a b = a
 pick_walked false a b = b
 
 -- what a walk answers, from when the chain delivers
-abbrev pub walked_of : Service → Ask → List ℕ → Arrival → Walked
-walked_of p ask chain (Ready r) = pick_walked (ltb r.0 ask.deadline.0) (Carried (figures_of p ask chain r.0)) (Refused TooLate)
-walked_of p ask chain Never = Refused (cause_of p ask chain)
+abbrev pub walked_of : Service → Ask → List ℕ → Option Millis → Walked
+walked_of p ask chain (Some r) = pick_walked (ltb r.0 ask.deadline.0) (Carried (figures_of p ask chain r.0)) (Refused TooLate)
+walked_of p ask chain None = Refused (cause_of p ask chain)
 
 unfoldable pub walk_model : Service → Ask → List ℕ → Walked
 walk_model p ask chain = walked_of p ask chain (delivery_of p ask chain)

@@ -4,15 +4,15 @@ ghost use Rattle.units.specs.Limits.{most_size, last_time};
 ghost use Rattle.service.specs.Tables.{IsService, served};
 ghost use Rattle.walk.specs.Model.{is_before, carries_size, raised, size_bits, room_of};
 
-use timing::{Arrival, delivery};
+use timing::{delivery};
 use units::{Ask, MOST_SIZE, Millis};
 
-fn is_before(a: Arrival, limit: Millis) -> bool
+fn is_before(a: Option<Millis>, limit: Millis) -> bool
     ensures { result ≡ is_before a limit.0 }
 {
     match a {
-        Arrival::Ready(t) => t.0 < limit.0,
-        Arrival::Never => false,
+        Some(t) => t.0 < limit.0,
+        None => false,
     }
 }
 

@@ -15,7 +15,7 @@ use crate::room::room;
 use plan::contact_numbered;
 use plan_valid::is_plan;
 use service::{BLANK_LEFT, BLANK_LIGHT, serve};
-use timing::{Arrival, delivery, later};
+use timing::{delivery, later};
 use units::{Ask, ContactNo, LAST_TIME, MOST_CONTACTS, MOST_SIZE, Millis, Refusal, is_node};
 use walk_cause::cause;
 
@@ -117,7 +117,7 @@ pub fn walk_served(
     ensures { result ≡ walk_model (served contacts.now contact_count lights.now lefts.now) ask chain.now }
 {
     let arrival = delivery(contacts, contact_count, lights, lefts, ask, chain);
-    let Arrival::Ready(delivered) = arrival else {
+    let Some(delivered) = arrival else {
         let why = cause(contacts, contact_count, lights, lefts, ask, chain);
         return Walked::Refused(why);
     };

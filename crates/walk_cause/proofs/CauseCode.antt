@@ -22,15 +22,12 @@ use Rattle.units.specs.declared.Ask.{Ask}
 use Rattle.units.specs.declared.Millis.{Millis}
 use Rattle.units.specs.declared.Refusal.{Refusal}
 use Rattle.units.specs.declared.Refusal.TheVariants.{NoContact, NotJoined, ExcludedNode, NotRanged, NotFitting, EndsElsewhere}
-use Rattle.plan.specs.declared.light.Light.{Light}
-use Rattle.plan.specs.declared.light.Light.TheVariants.{Of, Unranged}
+use Rattle.std.specs.Prelude.{Option, Some, None}
 use Rattle.plan.specs.declared.rows.Contact.{Contact}
 use Rattle.plan.specs.Tables.{contact_at}
 use Rattle.plan.proofs.Verdicts.{tells_le, both, true_holds}
 use Rattle.service.specs.Service.{Service, Sound, contact_of, light_in, left_in, InPlan}
 use Rattle.service.specs.Tables.{light_at, served}
-use Rattle.timing.specs.declared.arrival.Arrival.{Arrival}
-use Rattle.timing.specs.declared.arrival.Arrival.TheVariants.{Ready, Never}
 use Rattle.timing.specs.Hop.{is_barred}
 use Rattle.timing.specs.Model.{over_contact}
 use Rattle.timing.proofs.Bounded.{light_good, contact_good}
@@ -43,20 +40,20 @@ use Rattle.walk_cause.proofs.CauseLaws.{judged_passes}
 
 module _ (contacts : List ℕ) (m : ℕ) (lights lefts : List ℕ) (c : ℕ) where
   module _ (l : InPlan (served contacts m lights lefts) c) (ask : Ask) (t i : ℕ) where
-    module _ (x : Light) (ex : x ≡ light_at lights (c - 1)) where
+    module _ (x : Option Millis) (ex : x ≡ light_at lights (c - 1)) where
       read_light : light_in (served contacts m lights lefts) c ≡ x
       read_light = light_lent contacts m lights lefts c l ∙ sym ex
 
-      pub hop_unranged : x ≡ Unranged → Fault (NotRanged i) ≡ judged_hop (served contacts m lights lefts) ask t i c
+      pub hop_unranged : x ≡ None → Fault (NotRanged i) ≡ judged_hop (served contacts m lights lefts) ask t i c
       unfolding judged_hop
       hop_unranged e = rw (read_light, e)
 
-      pub hop_unfit : (y : Millis) (a : Arrival) → x ≡ Of y → a ≡ over_contact (served contacts m lights lefts) ask c t → a ≡ Never
+      pub hop_unfit : (y : Millis) (a : Option Millis) → x ≡ Some y → a ≡ over_contact (served contacts m lights lefts) ask c t → a ≡ None
           → Fault (NotFitting i) ≡ judged_hop (served contacts m lights lefts) ask t i c
       unfolding judged_hop
       hop_unfit y a e ea en = rw (read_light, e, sym ea, en)
 
-      pub hop_good : (y s : Millis) (a : Arrival) → x ≡ Of y → a ≡ over_contact (served contacts m lights lefts) ask c t → a ≡ Ready s
+      pub hop_good : (y s : Millis) (a : Option Millis) → x ≡ Some y → a ≡ over_contact (served contacts m lights lefts) ask c t → a ≡ Some s
           → Good s ≡ judged_hop (served contacts m lights lefts) ask t i c
       unfolding judged_hop
       hop_good y s a e ea er = rw (read_light, e, sym ea, er)

@@ -21,13 +21,10 @@ use Rattle.units.specs.declared.Ask.{Ask}
 use Rattle.units.specs.declared.Millis.{Millis}
 use Rattle.units.specs.declared.Refusal.{Refusal}
 use Rattle.units.specs.declared.Refusal.TheVariants.{NoContact, NotJoined, ExcludedNode, NotRanged, NotFitting, EndsElsewhere}
-use Rattle.plan.specs.declared.light.Light.{Light}
-use Rattle.plan.specs.declared.light.Light.TheVariants.{Of, Unranged}
+use Rattle.std.specs.Prelude.{Option, Some, None}
 use Rattle.plan.specs.Verdict.{Verdict, holds, fails}
 use Rattle.plan.proofs.Verdicts.{tells_le, tells_lt, tells_eq, both, restated}
 use Rattle.service.specs.Service.{Service, contact_of, light_in, left_in, InPlan}
-use Rattle.timing.specs.declared.arrival.Arrival.{Arrival}
-use Rattle.timing.specs.declared.arrival.Arrival.TheVariants.{Ready, Never}
 use Rattle.timing.specs.Chain.{Carries, stays, hops, Allowed}
 use Rattle.timing.specs.Hop.{sent, start_on, hopped, is_barred}
 use Rattle.timing.specs.Model.{goes_on, over_contact, carry, delivery_of}
@@ -43,19 +40,19 @@ pub record Passes (p : Service) (ask : Ask) (u t c s : ℕ) : Type 0 where
   pub in_plan : InPlan p c
   pub joined : (contact_of p c).from.0 ≡ u
   pub unbarred : is_barred ask (contact_of p c) ≡ false
-  pub hop : hopped (light_in p c) (left_in p c) (contact_of p c) ask.size t ≡ Ready (record { 0 = s })
+  pub hop : hopped (light_in p c) (left_in p c) (contact_of p c) ask.size t ≡ Some (record { 0 = s })
 
 module _ {p : Service} {ask : Ask} where
-  passes_ranged : {u t c s : ℕ} → Passes p ask u t c s → light_in p c ≡ Unranged → ⊥
+  passes_ranged : {u t c s : ℕ} → Passes p ask u t c s → light_in p c ≡ None → ⊥
   passes_ranged {t} {c} {s} g = go (hop_told (light_in p c) (left_in p c) (contact_of p c) ask.size t (record { 0 = s }) g.hop)
     where
-      go : {light : Light} → Hops (left_in p c) (contact_of p c) ask.size t light s → light ≡ Unranged → ⊥
+      go : {light : Option Millis} → Hops (left_in p c) (contact_of p c) ask.size t light s → light ≡ None → ⊥
       go (over f b q) e = let z : ◌≡◌ {A = ℕ} 0 1 = cc in omega arith
 
   passes_fits : {u t c s : ℕ} → Passes p ask u t c s → Fits p ask t c
   passes_fits {t} {c} {s} g = go (hop_told (light_in p c) (left_in p c) (contact_of p c) ask.size t (record { 0 = s }) g.hop)
     where
-      go : {light : Light} → Hops (left_in p c) (contact_of p c) ask.size t light s → Fits p ask t c
+      go : {light : Option Millis} → Hops (left_in p c) (contact_of p c) ask.size t light s → Fits p ask t c
       go (over f b q) = record { by_end = f; by_volume = b }
 
   passes_faultless : {u t i c s : ℕ} {why : Refusal} → Passes p ask u t c s → HasFault p ask u t i c why → ⊥
@@ -140,7 +137,7 @@ module _ (p : Service) (ask : Ask) (u t i c : ℕ) where
   Told (NoContact _) = InPlan p c → ⊥
   Told (NotJoined _) = (contact_of p c).from.0 ≡ u → ⊥
   Told (ExcludedNode _) = is_barred ask (contact_of p c) ≡ true
-  Told (NotRanged _) = light_in p c ≡ Unranged
+  Told (NotRanged _) = light_in p c ≡ None
   Told _ = Unit {0}
 
   told : {why : Refusal} → HasFault p ask u t i c why → Told why
@@ -159,24 +156,24 @@ module _ (p : Service) (ask : Ask) (u t i c : ℕ) where
   told_barred : HasFault p ask u t i c (ExcludedNode i) → is_barred ask (contact_of p c) ≡ true
   told_barred f = told f
 
-  told_ranged : HasFault p ask u t i c (NotRanged i) → light_in p c ≡ Unranged
+  told_ranged : HasFault p ask u t i c (NotRanged i) → light_in p c ≡ None
   told_ranged f = told f
 
   -- what is ranged and fits carries the file on
-  unfit : (m : Millis) → light_in p c ≡ Of m → over_contact p ask c t ≡ Never → Fits p ask t c → ⊥
+  unfit : (m : Millis) → light_in p c ≡ Some m → over_contact p ask c t ≡ None → Fits p ask t c → ⊥
   unfolding over_contact
   unfit m e q f =
       let r : ℕ = start_on (contact_of p c) t + sent ask.size (contact_of p c).rate + m.0 in
-      let h : hopped (Of m) (left_in p c) (contact_of p c) ask.size t ≡ Ready (record { 0 = r }) = hop_made {c = contact_of p c} (over f.by_end f.by_volume refl) in
+      let h : hopped (Some m) (left_in p c) (contact_of p c) ask.size t ≡ Some (record { 0 = r }) = hop_made {c = contact_of p c} (over f.by_end f.by_volume refl) in
       let z : ◌≡◌ {A = ℕ} 0 1 = cc in
       omega arith
 
   module _ (l : InPlan p c) (j : (contact_of p c).from.0 ≡ u) (b : is_barred ask (contact_of p c) ≡ false) (low : Lowest p ask u t i c 21) where
-    hop_finds : (light : Light) → light_in p c ≡ light → (a : Arrival) → over_contact p ask c t ≡ a → Finds p ask u t i c (by_hop i light a)
+    hop_finds : (light : Option Millis) → light_in p c ≡ light → (a : Option Millis) → over_contact p ask c t ≡ a → Finds p ask u t i c (by_hop i light a)
     unfolding over_contact fault_of
-    hop_finds Unranged e a q = finds (not_ranged l e) low
-    hop_finds (Of m) e (Ready s) q = passes (record { in_plan = l; joined = j; unbarred = b; hop = q })
-    hop_finds (Of m) e Never q =
+    hop_finds None e a q = finds (not_ranged l e) low
+    hop_finds (Some m) e (Some s) q = passes (record { in_plan = l; joined = j; unbarred = b; hop = q })
+    hop_finds (Some m) e None q =
         finds (not_fitting l (unfit m e q))
         (lowest_next (NotRanged i) refl (λ f. let h = told_ranged f in let z : ◌≡◌ {A = ℕ} 0 1 = cc in omega arith) low)
 
@@ -213,14 +210,14 @@ module _ (p : Service) (ask : Ask) where
   carry_passes {u} {t} {c} {s} cs g =
       rw (le-leb 1 c g.in_plan.least, le-leb c (length p.contacts) g.in_plan.most, eq-eqb (contact_of p c).from.0 u g.joined, g.unbarred, g.hop)
 
-  cause_from_lem : (u t k : ℕ) (cs : List ℕ) → carry p ask u t cs ≡ Never → Turned p ask u t k cs (cause_from p ask u t k cs)
+  cause_from_lem : (u t k : ℕ) (cs : List ℕ) → carry p ask u t cs ≡ None → Turned p ask u t k cs (cause_from p ask u t k cs)
   unfolding cause_from
   cause_from_lem u t k [] e = ends {n = k} (omega arith) stays (λ d. carry_never p ask e (subst (λ (v : ℕ). Carries p ask u t [] v t) d stays))
   cause_from_lem u t k (c ∷ cs) e =
       go (judged_finds p ask u t (k + 1) c) (λ s. cause_from_lem (contact_of p c).to.0 s (k + 1) cs)
     where
       go : {found : Judged} → Finds p ask u t (k + 1) c found
-          → ((s : ℕ) → carry p ask (contact_of p c).to.0 s cs ≡ Never → Turned p ask (contact_of p c).to.0 s (k + 1) cs (cause_from p ask (contact_of p c).to.0 s (k + 1) cs))
+          → ((s : ℕ) → carry p ask (contact_of p c).to.0 s cs ≡ None → Turned p ask (contact_of p c).to.0 s (k + 1) cs (cause_from p ask (contact_of p c).to.0 s (k + 1) cs))
           → Turned p ask u t k (c ∷ cs) (cause_by found (λ s. cause_from p ask (contact_of p c).to.0 s (k + 1) cs))
       go (passes {s} g) next = turned_on g (next s (sym (carry_passes cs g) ∙ e))
       go (finds f low) next = faulty {i = zero} (suc-le-suc zero-le) stays f low (omega arith)
@@ -231,7 +228,7 @@ module _ (p : Service) (ask : Ask) where
       (ap suc (sym (zero-add i)) ∙ sym e) (at_fault h a) f low
   turned_whole {chain} (ends e a d) = subst (λ (n : ℕ). TurnedDown p ask chain (EndsElsewhere n)) (sym (zero-add (length chain)) ∙ sym e) (elsewhere a d)
 
-  pub cause_tells : (chain : List ℕ) → delivery_of p ask chain ≡ Never → TurnedDown p ask chain (cause_of p ask chain)
+  pub cause_tells : (chain : List ℕ) → delivery_of p ask chain ≡ None → TurnedDown p ask chain (cause_of p ask chain)
   unfolding delivery_of cause_of
   cause_tells chain e = turned_whole (cause_from_lem ask.source.0 ask.time.0 0 chain e)
 
@@ -276,6 +273,6 @@ module _ (p : Service) (ask : Ask) where
       → ((why : Refusal) → TurnedDown p ask chain why → ⊥) ↔ ((r : ℕ) × Allowed p ask chain r)
   no_cause_exactly differ chain = (λ none. go none (delivery_of p ask chain) refl, λ a why d. allowed_no_cause a.1 d)
     where
-      go : ((why : Refusal) → TurnedDown p ask chain why → ⊥) → (a : Arrival) → delivery_of p ask chain ≡ a → (r : ℕ) × Allowed p ask chain r
-      go none (Ready r) e = (r.0, (allowed_delivery p ask differ chain r).0 e)
-      go none Never e = absurd (none _ (cause_tells p ask chain e))
+      go : ((why : Refusal) → TurnedDown p ask chain why → ⊥) → (a : Option Millis) → delivery_of p ask chain ≡ a → (r : ℕ) × Allowed p ask chain r
+      go none (Some r) e = (r.0, (allowed_delivery p ask differ chain r).0 e)
+      go none None e = absurd (none _ (cause_tells p ask chain e))

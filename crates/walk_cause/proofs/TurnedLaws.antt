@@ -16,14 +16,14 @@ use Rattle.units.specs.declared.Ask.{Ask}
 use Rattle.units.specs.declared.Millis.{Millis}
 use Rattle.units.specs.declared.Refusal.{Refusal}
 use Rattle.units.specs.declared.Refusal.TheVariants.{EndsElsewhere}
-use Rattle.plan.specs.declared.light.Light.TheVariants.{Of}
+use Rattle.std.specs.Prelude.{Some, None}
 use Rattle.service.specs.Service.{Service, contact_of, light_in, left_in}
 use Rattle.timing.specs.Hop.{start_on}
 use Rattle.timing.proofs.AllowedLaws.{start_later, later_one, SentOver, Along, carries_exactly}
 use Rattle.walk_cause.specs.Cause.{Fits, HasFault, no_contact, not_joined, excluded_node, not_ranged, not_fitting, TurnedDown, at_fault, elsewhere}
 
 module _ (p : Service) (ask : Ask) where
-  pub fits_exactly : (t c : ℕ) (l : Millis) → light_in p c ≡ Of l
+  pub fits_exactly : (t c : ℕ) (l : Millis) → light_in p c ≡ Some l
       → Fits p ask t c ↔ ((s : ℕ) × SentOver (light_in p c) (left_in p c) (contact_of p c) ask.size t s)
   fits_exactly t c l ranged = (
     λ f. (

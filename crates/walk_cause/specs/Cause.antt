@@ -4,12 +4,11 @@
 --     HasFault        a fault of the contact of a number, reached at node u at time t, the i-th of the chain
 --     TurnedDown      the first contact at fault and the lowest of its faults, or that the chain ends elsewhere
 -- Assumes nothing.
-use Rattle.std.specs.Prelude.{true, List, ◌≡◌, ℕ, suc, ◌+◌, ◌≤◌, ◌<◌, length, get_or, take}
+use Rattle.std.specs.Prelude.{true, List, ◌≡◌, ℕ, suc, ◌+◌, ◌≤◌, ◌<◌, length, get_or, take, Some, None}
 use Rattle.units.specs.Refusals.{number_of}
 use Rattle.units.specs.declared.Ask.{Ask}
 use Rattle.units.specs.declared.Refusal.{Refusal}
 use Rattle.units.specs.declared.Refusal.TheVariants.{NoContact, NotJoined, ExcludedNode, NotRanged, NotFitting, EndsElsewhere}
-use Rattle.plan.specs.declared.light.Light.TheVariants.{Unranged}
 use Rattle.service.specs.Service.{Service, contact_of, light_in, left_in, InPlan}
 use Rattle.timing.specs.Chain.{Carries}
 use Rattle.timing.specs.Hop.{consumed, sent, start_on, is_barred}
@@ -24,7 +23,7 @@ pub data HasFault (p : Service) (ask : Ask) (u t i c : ℕ) : Refusal → Type 0
   no_contact : (InPlan p c → ⊥) → HasFault p ask u t i c (NoContact i)
   not_joined : InPlan p c → ((contact_of p c).from.0 ≡ u → ⊥) → HasFault p ask u t i c (NotJoined i)
   excluded_node : InPlan p c → is_barred ask (contact_of p c) ≡ true → HasFault p ask u t i c (ExcludedNode i)
-  not_ranged : InPlan p c → light_in p c ≡ Unranged → HasFault p ask u t i c (NotRanged i)
+  not_ranged : InPlan p c → light_in p c ≡ None → HasFault p ask u t i c (NotRanged i)
   not_fitting : InPlan p c → (Fits p ask t c → ⊥) → HasFault p ask u t i c (NotFitting i)
 
 -- positions are counted from 1

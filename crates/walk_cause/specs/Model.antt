@@ -2,15 +2,12 @@
 --     judged        a contact of a chain, judged as it is reached
 --     cause_of       why a chain is turned down
 -- Assumes nothing.
-use Rattle.std.specs.Prelude.{Bool, true, false, not, ◌&&◌, List, [], ◌∷◌, ℕ, ◌+◌, leb, eqb, length}
+use Rattle.std.specs.Prelude.{Bool, true, false, not, ◌&&◌, List, [], ◌∷◌, ℕ, ◌+◌, leb, eqb, length, Option, Some, None}
 use Rattle.units.specs.declared.Ask.{Ask}
 use Rattle.units.specs.declared.Refusal.{Refusal}
 use Rattle.units.specs.declared.Refusal.TheVariants.{NoContact, NotJoined, ExcludedNode, NotRanged, NotFitting, EndsElsewhere}
-use Rattle.plan.specs.declared.light.Light.{Light}
-use Rattle.plan.specs.declared.light.Light.TheVariants.{Of, Unranged}
+use Rattle.units.specs.declared.Millis.{Millis}
 use Rattle.service.specs.Service.{Service, contact_of, light_in}
-use Rattle.timing.specs.declared.arrival.Arrival.{Arrival}
-use Rattle.timing.specs.declared.arrival.Arrival.TheVariants.{Ready, Never}
 use Rattle.timing.specs.Hop.{is_barred}
 use Rattle.timing.specs.Model.{over_contact}
 use Rattle.walk_cause.specs.declared.judging.Judged.{Judged}
@@ -22,10 +19,10 @@ unless true why later = later
 unless false why later = Fault why
 
 -- by a light time, and by when the file is ready behind the contact
-abbrev pub by_hop : ℕ → Light → Arrival → Judged
-by_hop i Unranged a = Fault (NotRanged i)
-by_hop i (Of l) (Ready s) = Good s
-by_hop i (Of l) Never = Fault (NotFitting i)
+abbrev pub by_hop : ℕ → Option Millis → Option Millis → Judged
+by_hop i None a = Fault (NotRanged i)
+by_hop i (Some l) (Some s) = Good s
+by_hop i (Some l) None = Fault (NotFitting i)
 
 -- contact c, reached at time t, the i-th of the chain: ranged and fitting
 unfoldable pub judged_hop : Service → Ask → ℕ → ℕ → ℕ → Judged

@@ -5,9 +5,9 @@ ghost use Rattle.service.specs.Service.{InPlan};
 ghost use Rattle.service.specs.Tables.{IsService, served};
 ghost use Rattle.walk_cause.specs.Model.{judged_hop, judged_named, judged, cause_of};
 
-use plan::{Light, contact_numbered};
+use plan::{contact_numbered};
 use service::light_numbered;
-use timing::{Arrival, is_barred, over};
+use timing::{is_barred, over};
 use units::{Ask, ContactNo, Millis, NodeNo, Refusal};
 
 // A contact of a chain, judged as it is reached: when the file is ready behind it, or its lowest
@@ -40,11 +40,11 @@ fn judge_hop(
     ensures { result ≡ judged_hop (served contacts.now contact_count lights.now lefts.now) ask ready.0 position no.0 }
 {
     let light = light_numbered(lights, no);
-    let Light::Of(_) = light else {
+    let Some(_) = light else {
         return Judged::Fault(Refusal::NotRanged(position));
     };
     let arrival = over(contacts, contact_count, lights, lefts, ask, no, ready);
-    let Arrival::Ready(t) = arrival else {
+    let Some(t) = arrival else {
         return Judged::Fault(Refusal::NotFitting(position));
     };
     Judged::Good(t)

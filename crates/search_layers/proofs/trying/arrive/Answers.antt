@@ -30,17 +30,17 @@ over-arrival-requires c =
     let pre = c.requires in
     (pre.0, pre.2, pre.1.size_most, open_time _ _ (sym c.is_shut.ensures ∙ c.if-is_shut.false) pre.3)
 
-pub returns-in-Ready : goal.returns-in-Ready
-returns-in-Ready c =
+pub returns-in-Some : goal.returns-in-Some
+returns-in-Some c =
     let pre = c.requires in
     let read = contact_read _ _ _ _ _ pre.0 pre.2 _ c.contact_numbered-pass.ensures in
     let opened = sym c.is_shut.ensures ∙ c.if-is_shut.false in
-    arrive_ready _ _ _ _ pre.2 pre.3 _ read opened _ c.over-arrival.ensures pre.0.sound _ c.in-Ready.is
+    arrive_ready _ _ _ _ pre.2 pre.3 _ read opened _ c.over-arrival.ensures pre.0.sound _ c.in-Some.is
 
-pub returns-in-Never : goal.returns-in-Never
+pub returns-in-None : goal.returns-in-None
 unfolding never_word
-returns-in-Never c =
+returns-in-None c =
     let pre = c.requires in
     let read = contact_read _ _ _ _ _ pre.0 pre.2 _ c.contact_numbered-pass.ensures in
     let opened = sym c.is_shut.ensures ∙ c.if-is_shut.false in
-    arrive_unready _ _ _ _ pre.2 pre.3 _ read opened _ c.over-arrival.ensures c.in-Never.is
+    arrive_unready _ _ _ _ pre.2 pre.3 _ read opened _ c.over-arrival.ensures c.in-None.is

@@ -24,7 +24,7 @@ returns-in_default c =
 pub contact_numbered-requires : goal.contact_numbered-requires
 contact_numbered-requires c =
     let pre = c.requires in
-    let named = steps_in_plan _ _ _ _ _ _ (sym c.step-arrival.ensures ∙ c.in-Ready.is) in
+    let named = steps_in_plan _ _ _ _ _ _ (sym c.step-arrival.ensures ∙ c.in-Some.is) in
     omega (arith, named.least, named_at_most _ _ _ _ _ named, pre.0.contacts_lent)
 
 pub overflow_add-i : goal.overflow_add-i
@@ -34,7 +34,7 @@ overflow_add-i c =
 pub loop-i-preserved : goal.loop-i-preserved
 loop-i-preserved c =
     let pre = c.requires in
-    let stepped = sym c.step-arrival.ensures ∙ c.in-Ready.is in (
+    let stepped = sym c.step-arrival.ensures ∙ c.in-Some.is in (
       omega arith,
       step_bounded _ pre.0.sound _ _ _ _ _ stepped,
       c.loop-i.invariant.2 ∙ carry_lent _ _ _ _ _ _ _ _ _ _ _ c.loop-i-test.true stepped c.contact_numbered.ensures,

@@ -2,5 +2,5 @@
 -- Assumes nothing.
 use Rattle.walk.proofs.room.is_before.Goals as goal
 
-pub returns-in-Ready : goal.returns-in-Ready
-returns-in-Ready c = rw c.in-Ready.is
+pub returns-in-Some : goal.returns-in-Some
+returns-in-Some c = rw c.in-Some.is

@@ -16,10 +16,10 @@ returns-in_default c =
 
 pub returns-in_default-arrival : goal.returns-in_default-arrival
 returns-in_default-arrival c =
-    hop_unfit _ _ _ _ _ c.requires.1 _ _ _ _ c.light_numbered-light.ensures _ _ c.in-Of.is
+    hop_unfit _ _ _ _ _ c.requires.1 _ _ _ _ c.light_numbered-light.ensures _ _ c.in-Some.is
     c.over-arrival.ensures c.in_default-arrival.is
 
 pub returns : goal.returns
 returns c =
-    hop_good _ _ _ _ _ c.requires.1 _ _ _ _ c.light_numbered-light.ensures _ _ _ c.in-Of.is
-    c.over-arrival.ensures c.in-Ready.is
+    hop_good _ _ _ _ _ c.requires.1 _ _ _ _ c.light_numbered-light.ensures _ _ _ c.in-Some.is
+    c.over-arrival.ensures c.in-Some.is
