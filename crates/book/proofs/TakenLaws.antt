@@ -16,7 +16,7 @@ use native.Mathlib.Nat.{not-suc-le-zero, le_of_suc-le-suc, not-le_of_lt}
 use native.Mathlib.Omega.{arith}
 use lib.Dec.{leb}
 use lib.ListN.{length, get_or}
-use Rattle.plan.specs.Plan.{ForSome}
+use Rattle.plan.specs.Plan.{SomeOf}
 use Rattle.plan.specs.Verdict.{Verdict, holds, fails}
 use Rattle.plan.proofs.Sharing.{some_here, some_later}
 use Rattle.plan.proofs.Verdicts.{tells_le, tells_eq, both, either, restated, true_holds, holds_true}
@@ -24,7 +24,7 @@ use Rattle.book.specs.Book.{Booking, names, taken, used}
 
 -- the contact's number stands in the chain
 abbrev pub StandsIn : List ℕ → ℕ → Type 0
-StandsIn chain c = ForSome (λ (x : ℕ). x ≡ c) chain
+StandsIn chain c = SomeOf (λ (x : ℕ). x ≡ c) chain
 
 none_stands : (c : ℕ) → StandsIn [] c → ⊥
 none_stands c s = not-suc-le-zero s.in_list

@@ -18,7 +18,7 @@ use Rattle.units.specs.declared.Millis.{Millis}
 use Rattle.plan.specs.declared.rows.Contact.{Contact}
 use Rattle.plan.specs.declared.rows.Range.{Range}
 use Rattle.plan.specs.Light.{Shares, CoversAt, Ranged, IsLargest, HasLight, ranged, not_ranged, light_of}
-use Rattle.plan.specs.Plan.{Plan, GoodRange, Overlap, Each, ForSome, NoTwo, Valid, range_span}
+use Rattle.plan.specs.Plan.{Plan, GoodRange, Overlap, Each, SomeOf, NoTwo, Valid, range_span}
 use Rattle.plan.specs.Single.{Covers, covers, single_light}
 use Rattle.plan.specs.Verdict.{Verdict, holds, fails}
 use Rattle.plan.proofs.Ranging.{light_has, has_light_determined}
@@ -33,7 +33,7 @@ covers_tells r c =
 
 -- what the rule makes of the ranges
 data Single (rs : List Range) (c : Contact) : Option Millis → Type 0 where
-  covered : {l : Millis} → ForSome (λ r. Covers r c × (r.light ≡ l)) rs → Single rs c (Some l)
+  covered : {l : Millis} → SomeOf (λ r. Covers r c × (r.light ≡ l)) rs → Single rs c (Some l)
   uncovered : Each (λ r. Covers r c → ⊥) rs → Single rs c None
 
 single_tells : (rs : List Range) (c : Contact) → Single rs c (single_light rs c)
@@ -53,7 +53,7 @@ single_tells (r ∷ rs) c = first (covers r c) (covers_tells r c) (single_tells 
 covers_at : (r : Range) (c : Contact) (t : ℕ) → c.start.0 ≤ t → t < c.end.0 → Covers r c → CoversAt c t r
 covers_at r c t from until x = record { names = x.names; begun = omega (arith, x.starts); lasting = omega (arith, x.ends) }
 
-pub covers_ranged : (rs : List Range) (c : Contact) → ForSome (λ r. Covers r c) rs → Ranged rs c
+pub covers_ranged : (rs : List Range) (c : Contact) → SomeOf (λ r. Covers r c) rs → Ranged rs c
 unfolding Ranged
 covers_ranged rs c s t from until = some_mapped (λ r. Covers r c) (CoversAt c t) rs s (λ r x. covers_at r c t from until x)
 
@@ -81,7 +81,7 @@ module _ (c : Contact) (h : c.start.0 < c.end.0) where
         overlaps : Overlap (range_span (get_or rs j blank)) (range_span (get_or rs k blank)) × Overlap (range_span (get_or rs k blank)) (range_span (get_or rs j blank))
         overlaps = meets (get_or rs j blank) (get_or rs k blank) (good blank j hj) (good blank k hk) x y
 
-    covered_largest : (l : Millis) → ForSome (λ r. Covers r c × (r.light ≡ l)) rs → IsLargest rs c l
+    covered_largest : (l : Millis) → SomeOf (λ r. Covers r c × (r.light ≡ l)) rs → IsLargest rs c l
     unfolding Each
     covered_largest l s = record {
       is_one = some_mapped (λ r. Covers r c × (r.light ≡ l)) (λ r. Shares r c × (r.light ≡ l)) rs s (λ r x. (covers_shares r x.0, x.1));
@@ -92,15 +92,15 @@ module _ (c : Contact) (h : c.start.0 < c.end.0) where
           rw e (omega arith);
     }
 
-    pub single_has : ForSome (λ r. Covers r c) rs ⊎ (Ranged rs c → ⊥) → HasLight rs c (single_light rs c)
+    pub single_has : SomeOf (λ r. Covers r c) rs ⊎ (Ranged rs c → ⊥) → HasLight rs c (single_light rs c)
     single_has told = go (single_tells rs c) told
       where
-        go : {light : Option Millis} → Single rs c light → ForSome (λ r. Covers r c) rs ⊎ (Ranged rs c → ⊥) → HasLight rs c light
+        go : {light : Option Millis} → Single rs c light → SomeOf (λ r. Covers r c) rs ⊎ (Ranged rs c → ⊥) → HasLight rs c light
         go (covered {l} s) t =
             ranged (covers_ranged rs c (some_mapped (λ r. Covers r c × (r.light ≡ l)) (λ r. Covers r c) rs s (λ r x. x.0))) (covered_largest l s)
         go (uncovered e) (inl s) = absurd (some_gives (λ r. Covers r c) (λ r. Covers r c → ⊥) rs s e (λ r x n. n x))
         go (uncovered e) (inr n) = not_ranged n
 
-pub light_as_before : (p : Plan) → Valid p → (c : Contact) → c.start.0 < c.end.0 → ForSome (λ r. Covers r c) p.ranges ⊎ (Ranged p.ranges c → ⊥)
+pub light_as_before : (p : Plan) → Valid p → (c : Contact) → c.start.0 < c.end.0 → SomeOf (λ r. Covers r c) p.ranges ⊎ (Ranged p.ranges c → ⊥)
     → light_of p.ranges c ≡ single_light p.ranges c
 light_as_before p v c h told = has_light_determined (light_has p v c h) (single_has c h p.ranges v.ranges_good v.ranges_apart told)

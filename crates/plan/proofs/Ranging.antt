@@ -23,7 +23,7 @@ use Rattle.plan.specs.declared.rows.Contact.{Contact}
 use Rattle.plan.specs.declared.rows.Range.{Range}
 use Rattle.std.specs.Prelude.{Option, Some, None}
 use Rattle.plan.specs.Light.{Shares, CoversAt, Ranged, IsLargest, HasLight, ranged, not_ranged, shared_by, shared_time, largest_light, light_of}
-use Rattle.plan.specs.Plan.{Plan, GoodRange, Each, ForSome, Valid}
+use Rattle.plan.specs.Plan.{Plan, GoodRange, Each, SomeOf, Valid}
 use Rattle.plan.specs.Verdict.{Verdict, holds, fails}
 use Rattle.plan.proofs.Sharing.{shares_shared, shares_tells, some_here, some_later, some_mapped, some_gives, ranged_tells}
 use Rattle.plan.proofs.Tests.{each_cons, each_head, each_tail}
@@ -61,23 +61,23 @@ SharesWith c l r = Shares r c × (r.light ≡ record { 0 = l })
 -- the larger of the first range's light time, where that shares time, and of the largest of the others
 module _ (c : Contact) (r : Range) (rs : List Range) where
   module _ (s : Shares r c) where
-    first_largest : (others : ℕ) → others ≤ r.light.0 → ForSome (SharesWith c (max r.light.0 others)) (r ∷ rs)
+    first_largest : (others : ℕ) → others ≤ r.light.0 → SomeOf (SharesWith c (max r.light.0 others)) (r ∷ rs)
     first_largest others l =
         let e : r.light.0 ≡ max r.light.0 others = omega arith in
         some_here (SharesWith c (max r.light.0 others)) r rs (s, ap (λ (n : ℕ). record { 0 = n }) e)
 
-    largest_with : (others : ℕ) → ForSome (SharesWith c others) rs ⊎ (others ≡ 0) → ForSome (SharesWith c (max r.light.0 others)) (r ∷ rs)
+    largest_with : (others : ℕ) → SomeOf (SharesWith c others) rs ⊎ (others ≡ 0) → SomeOf (SharesWith c (max r.light.0 others)) (r ∷ rs)
     largest_with others (inr z) = first_largest others (omega arith)
     largest_with others (inl x) = elim (dec_le others r.light.0) [
       | yes l ↦ first_largest others l
       | no l ↦
           let e : others ≡ max r.light.0 others = omega arith in
-          some_later (SharesWith c (max r.light.0 others)) r rs (subst (λ (n : ℕ). ForSome (SharesWith c n) rs) e x)
+          some_later (SharesWith c (max r.light.0 others)) r rs (subst (λ (n : ℕ). SomeOf (SharesWith c n) rs) e x)
     ]
 
 module _ (c : Contact) (h : c.start.0 < c.end.0) where
   -- one of the ranges has it, or none shares time with the contact
-  largest_found : (rs : List Range) → Each GoodRange rs → ForSome (SharesWith c (largest_light rs c)) rs ⊎ (Each (λ r. Shares r c → ⊥) rs × (largest_light rs c ≡ 0))
+  largest_found : (rs : List Range) → Each GoodRange rs → SomeOf (SharesWith c (largest_light rs c)) rs ⊎ (Each (λ r. Shares r c → ⊥) rs × (largest_light rs c ≡ 0))
   unfolding largest_light Each
   largest_found [] good = inr (λ blank k l s. not-suc-le-zero l, refl)
   largest_found (r ∷ rs) good =
@@ -86,14 +86,14 @@ module _ (c : Contact) (h : c.start.0 < c.end.0) where
       others : ℕ
       others = largest_light rs c
 
-      go : (b : Bool) → Verdict (Shares r c) b → ForSome (SharesWith c others) rs ⊎ (Each (λ x. Shares x c → ⊥) rs × (others ≡ 0))
-          → ForSome (SharesWith c (cond b (max r.light.0 others) others)) (r ∷ rs)
+      go : (b : Bool) → Verdict (Shares r c) b → SomeOf (SharesWith c others) rs ⊎ (Each (λ x. Shares x c → ⊥) rs × (others ≡ 0))
+          → SomeOf (SharesWith c (cond b (max r.light.0 others) others)) (r ∷ rs)
           ⊎ (Each (λ x. Shares x c → ⊥) (r ∷ rs) × (cond b (max r.light.0 others) others ≡ 0))
       go _ (holds s) found = inl (largest_with c r rs s others (⊎_elim inl (λ n. inr n.1) found))
       go _ (fails n) (inl x) = inl (some_later (SharesWith c others) r rs x)
       go _ (fails n) (inr x) = inr (each_cons (λ y. Shares y c → ⊥) r rs n x.0, x.1)
 
-  pub largest_some : (rs : List Range) → Each GoodRange rs → ForSome (λ r. Shares r c) rs → ForSome (SharesWith c (largest_light rs c)) rs
+  pub largest_some : (rs : List Range) → Each GoodRange rs → SomeOf (λ r. Shares r c) rs → SomeOf (SharesWith c (largest_light rs c)) rs
   largest_some rs good some =
       ⊎_elim (λ x. x) (λ n. absurd (some_gives (λ r. Shares r c) (λ r. Shares r c → ⊥) rs some n.0 (λ r x no. no x))) (largest_found rs good)
 
@@ -104,7 +104,7 @@ module _ (c : Contact) (h : c.start.0 < c.end.0) where
   start_shares : (r : Range) → CoversAt c c.start.0 r → Shares r c
   start_shares r x = record { names = x.names; range_before = omega (arith, x.begun); contact_before = x.lasting }
 
-  ranged_some : (rs : List Range) → Ranged rs c → ForSome (λ r. Shares r c) rs
+  ranged_some : (rs : List Range) → Ranged rs c → SomeOf (λ r. Shares r c) rs
   unfolding Ranged
   ranged_some rs told = some_mapped (CoversAt c c.start.0) (λ r. Shares r c) rs (told c.start.0 (omega arith) h) start_shares
 

@@ -23,7 +23,7 @@ use lib.ListN.{get_or}
 use Rattle.plan.specs.declared.rows.Contact.{Contact}
 use Rattle.plan.specs.declared.rows.Range.{Range}
 use Rattle.plan.specs.Light.{Joins, Shares, CoversAt, Ranged, joins, shared_by, shared_time}
-use Rattle.plan.specs.Plan.{GoodRange, Overlap, Each, ForSome, NoTwo, range_span}
+use Rattle.plan.specs.Plan.{GoodRange, Overlap, Each, SomeOf, NoTwo, range_span}
 use Rattle.plan.specs.Verdict.{Verdict, holds, fails}
 use Rattle.plan.proofs.Tests.{each_head, each_tail, each_at, no_two_head, no_two_tail}
 use Rattle.plan.proofs.Verdicts.{tells_le, tells_eq, both, either, restated, holds_true}
@@ -81,28 +81,28 @@ at_overlap r s c t gr gs cr cs =
 -- ---- some range of a list
 
 module _ {A : Type 0} (P : A → Type 0) where
-  pub some_here : (x : A) (xs : List A) → P x → ForSome P (x ∷ xs)
+  pub some_here : (x : A) (xs : List A) → P x → SomeOf P (x ∷ xs)
   some_here x xs p = record { place = zero; in_list = suc-le-suc zero-le; holds_there = λ blank. p }
 
-  pub some_later : (x : A) (xs : List A) → ForSome P xs → ForSome P (x ∷ xs)
+  pub some_later : (x : A) (xs : List A) → SomeOf P xs → SomeOf P (x ∷ xs)
   some_later x xs s = record { place = suc s.place; in_list = suc-le-suc s.in_list; holds_there = s.holds_there }
 
-  pub some_mapped : (R : A → Type 0) (xs : List A) → ForSome P xs → ((x : A) → P x → R x) → ForSome R xs
+  pub some_mapped : (R : A → Type 0) (xs : List A) → SomeOf P xs → ((x : A) → P x → R x) → SomeOf R xs
   some_mapped R xs s f = record { place = s.place; in_list = s.in_list; holds_there = λ blank. f (get_or xs s.place blank) (s.holds_there blank) }
 
   -- what follows from such an element, of which holds what holds of each, follows
-  pub some_gives : {B : Type 0} (Q : A → Type 0) (xs : List A) → ForSome P xs → Each Q xs → ((x : A) → P x → Q x → B) → B
+  pub some_gives : {B : Type 0} (Q : A → Type 0) (xs : List A) → SomeOf P xs → Each Q xs → ((x : A) → P x → Q x → B) → B
   unfolding Each
   some_gives Q [] s e f = absurd (not-suc-le-zero s.in_list)
   some_gives Q (x ∷ xs) s e f = f (get_or (x ∷ xs) s.place x) (s.holds_there x) (e x s.place s.in_list)
 
 module _ (c : Contact) where
-  pub some_shares : (rs : List Range) → 1 ≤ shared_time rs c → ForSome (λ r. Shares r c) rs
+  pub some_shares : (rs : List Range) → 1 ≤ shared_time rs c → SomeOf (λ r. Shares r c) rs
   unfolding shared_time
   some_shares [] h = absurd (omega arith)
   some_shares (r ∷ rs) h = go (shared_by r c) h (shared_shares r c) (some_shares rs)
     where
-      go : (n : ℕ) → 1 ≤ n + shared_time rs c → (1 ≤ n → Shares r c) → (1 ≤ shared_time rs c → ForSome (λ x. Shares x c) rs) → ForSome (λ x. Shares x c) (r ∷ rs)
+      go : (n : ℕ) → 1 ≤ n + shared_time rs c → (1 ≤ n → Shares r c) → (1 ≤ shared_time rs c → SomeOf (λ x. Shares x c) rs) → SomeOf (λ x. Shares x c) (r ∷ rs)
       go zero h here later = some_later (λ x. Shares x c) r rs (later (omega arith))
       go (suc n) h here later = some_here (λ x. Shares x c) r rs (here (omega arith))
 
@@ -113,7 +113,7 @@ module _ (c : Contact) where
     each_shares (r ∷ rs) good blank zero h s = omega (arith, shares_shared r c (each_head GoodRange r rs good).starts hc s)
     each_shares (r ∷ rs) good blank (suc k) h s = omega (arith, each_shares rs (each_tail GoodRange r rs good) blank k (le_of_suc-le-suc h) s)
 
-    pub shares_some : (rs : List Range) → Each GoodRange rs → ForSome (λ r. Shares r c) rs → 1 ≤ shared_time rs c
+    pub shares_some : (rs : List Range) → Each GoodRange rs → SomeOf (λ r. Shares r c) rs → 1 ≤ shared_time rs c
     shares_some rs good s = some_gives (λ r. Shares r c) (λ r. Shares r c → 1 ≤ shared_time rs c) rs s (each_shares rs good) (λ r x f. f x)
 
 -- ---- a contact, one millisecond after the other

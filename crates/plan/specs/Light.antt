@@ -8,7 +8,7 @@
 -- Assumes nothing.
 use Rattle.std.specs.Prelude.{Bool, true, false, ◌&&◌, ◌||◌, cond, List, [], ◌∷◌, ◌⊎◌, ◌≡◌, ℕ, ◌+◌, ◌-◌, ◌≤◌, ◌<◌, min, max, leb, eqb, Option, Some, None}
 use Rattle.units.specs.declared.Millis.{Millis}
-use Rattle.plan.specs.Plan.{Each, ForSome}
+use Rattle.plan.specs.Plan.{Each, SomeOf}
 use Rattle.plan.specs.declared.rows.Contact.{Contact}
 use Rattle.plan.specs.declared.rows.Range.{Range}
 
@@ -30,10 +30,10 @@ pub record CoversAt (c : Contact) (t : ℕ) (r : Range) : Type 0 where
 
 -- every millisecond of the contact lies in a range of its pair
 unfoldable pub Ranged : List Range → Contact → Type 0
-Ranged rs c = (t : ℕ) → c.start.0 ≤ t → t < c.end.0 → ForSome (CoversAt c t) rs
+Ranged rs c = (t : ℕ) → c.start.0 ≤ t → t < c.end.0 → SomeOf (CoversAt c t) rs
 
 pub record IsLargest (rs : List Range) (c : Contact) (l : Millis) : Type 0 where
-  pub is_one : ForSome (λ r. Shares r c × (r.light ≡ l)) rs
+  pub is_one : SomeOf (λ r. Shares r c × (r.light ≡ l)) rs
   pub largest : Each (λ r. Shares r c → r.light.0 ≤ l.0) rs
 
 pub data HasLight (rs : List Range) (c : Contact) : Option Millis → Type 0 where

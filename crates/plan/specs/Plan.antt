@@ -48,7 +48,7 @@ module _ {A : Type 0} where
   Each P xs = (blank : A) (k : ℕ) → k < length xs → P (get_or xs k blank)
 
   -- it holds of some element
-  pub record ForSome (P : A → Type 0) (xs : List A) : Type 0 where
+  pub record SomeOf (P : A → Type 0) (xs : List A) : Type 0 where
     pub place : ℕ
     pub in_list : place < length xs
     pub holds_there : (blank : A) → P (get_or xs place blank)

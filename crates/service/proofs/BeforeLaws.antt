@@ -7,7 +7,7 @@ use mathlib.Core.Logic.{◌⊎◌}
 use mathlib.Core.Path.{◌≡◌, refl, ap₂}
 use Prim.Native.Nat.{ℕ}
 use Rattle.plan.specs.Light.{Ranged, light_of}
-use Rattle.plan.specs.Plan.{Plan, Each, ForSome, Valid}
+use Rattle.plan.specs.Plan.{Plan, Each, SomeOf, Valid}
 use Rattle.plan.specs.Single.{Covers, single_light}
 use Rattle.plan.proofs.Before.{light_as_before}
 use Rattle.plan.proofs.Tests.{each_head, each_tail}
@@ -18,7 +18,7 @@ maps_agree f g [] same = refl
 maps_agree {A} {B} f g (x ∷ xs) same =
     ap₂ (λ (y : B) (ys : List B). y ∷ ys) (each_head (λ z. f z ≡ g z) x xs same) (maps_agree f g xs (each_tail (λ z. f z ≡ g z) x xs same))
 
-pub service_as_before : (p : Plan) → Valid p → Each (λ c. ForSome (λ r. Covers r c) p.ranges ⊎ (Ranged p.ranges c → ⊥)) p.contacts → (used : ℕ → ℕ)
+pub service_as_before : (p : Plan) → Valid p → Each (λ c. SomeOf (λ r. Covers r c) p.ranges ⊎ (Ranged p.ranges c → ⊥)) p.contacts → (used : ℕ → ℕ)
     → service_of p used ≡ record { contacts = p.contacts; lights = map (single_light p.ranges) p.contacts; lefts = lefts_from used 1 p.contacts }
 unfolding service_of Each
 service_as_before p v told used = λ i. record { contacts = p.contacts; lights = lights_same i; lefts = lefts_from used 1 p.contacts }

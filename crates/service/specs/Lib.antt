@@ -1,3 +1,5 @@
+pub mod SoundProp
 pub mod Model
 pub mod Service
 pub mod Tables
+pub mod Held

@@ -13,6 +13,7 @@ use crate::tables::UNRANGED;
 use plan::{Contact, contact_row};
 use plan_light::light_kept;
 use plan_lists::{BLANK, MOST_ROWS, SLOTS, link};
+use units::Millis;
 
 // A row that no table has: none is kept yet. Its bytes are not all the same, so that an array of it is
 // filled word by word and not byte by byte.

@@ -1,8 +1,10 @@
-// What stands beside the contacts: a table of light times and one of the bytes that are left, and the
-// accessors that read them.
+// What stands beside the contacts: a table of light times and one of the bytes that are left, and the struct
+// that keeps the three tables together and reads them.
 ghost use Rattle.std.specs.Prelude.{◌≡◌, ◌-◌, ◌≤◌, length};
-ghost use Rattle.service.specs.Tables.{light_word, light_at, left_at};
+ghost use Rattle.service.specs.SoundProp.{is_service_prop};
+ghost use Rattle.service.specs.Tables.{light_word, IsService};
 
+use plan::{Contact, contact_numbered};
 use units::{ContactNo, Millis};
 
 // The words of tables that are not filled yet. Their bytes are not all the same, so that an array is filled
@@ -13,6 +15,16 @@ pub const BLANK_LEFT: u64 = 1;
 
 // The word of a contact that has no light time.
 pub const UNRANGED: u32 = 4_294_967_295;
+
+// The plan as it serves an ask: its contacts, and beside each its light time and the bytes that are left on it.
+#[derive(Clone, Copy)]
+pub struct ServedPlan<'a> {
+    pub contacts: &'a [u64],
+    pub contact_count: usize,
+    pub lights: &'a [u32],
+    pub lefts: &'a [u64],
+    pub ghost sound: { IsService contacts.now contact_count lights.now lefts.now } by { is_service_prop _ _ _ _ },
+}
 
 // The light time that a word stands for.
 fn light_of(word: u32) -> Option<Millis>
@@ -25,20 +37,36 @@ fn light_of(word: u32) -> Option<Millis>
     }
 }
 
-// The light time of the contact of that number, or none.
-pub fn light_numbered(lights: &[u32], no: ContactNo) -> Option<Millis>
-    requires { (1 ≤ no.0) × (no.0 ≤ length lights.now) }
-    ensures { result ≡ light_at lights.now (no.0 - 1) }
-{
-    let row = (no.0 - 1) as usize;
-    light_of(lights[row])
-}
+impl<'a> ServedPlan<'a> {
+    ghost use Rattle.plan.specs.Plan.{GoodContact};
+    ghost use Rattle.service.specs.Service.{InPlan, LightGood, contact_of, light_in, left_in};
+    ghost use Rattle.service.specs.Held.{service_in};
 
-// The bytes that are left on the contact of that number.
-pub fn left_numbered(lefts: &[u64], no: ContactNo) -> u64
-    requires { (1 ≤ no.0) × (no.0 ≤ length lefts.now) }
-    ensures { result ≡ left_at lefts.now (no.0 - 1) }
-{
-    let row = (no.0 - 1) as usize;
-    lefts[row]
+    // The contact of that number.
+    pub fn contact(&self, no: ContactNo) -> Contact
+        requires { InPlan (service_in self.now) no.0 }
+        ensures is { result ≡ contact_of (service_in self.now) no.0 }
+        ensures good { GoodContact result }
+    {
+        contact_numbered(self.contacts, no)
+    }
+
+    // Its light time, or none.
+    pub fn light(&self, no: ContactNo) -> Option<Millis>
+        requires { InPlan (service_in self.now) no.0 }
+        ensures is { result ≡ light_in (service_in self.now) no.0 }
+        ensures good { LightGood result }
+    {
+        let row = (no.0 - 1) as usize;
+        light_of(self.lights[row])
+    }
+
+    // The bytes that are left on it.
+    pub fn left(&self, no: ContactNo) -> u64
+        requires { InPlan (service_in self.now) no.0 }
+        ensures { result ≡ left_in (service_in self.now) no.0 }
+    {
+        let row = (no.0 - 1) as usize;
+        self.lefts[row]
+    }
 }
