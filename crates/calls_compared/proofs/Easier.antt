@@ -17,7 +17,7 @@ use Rattle.plan.specs.declared.rows.Contact.{Contact}
 use Rattle.service.specs.Service.{Service, Sound, InPlan, contact_of, light_in, left_in}
 use Rattle.timing.specs.Chain.{Carries, stays, hops, Allowed, InTime, ask_at, ask_of}
 use Rattle.timing.specs.Hop.{hopped, is_barred}
-use Rattle.timing.proofs.Bounded.{contact_good}
+use Rattle.service.proofs.Bounded.{contact_good}
 use Rattle.timing.proofs.HopLaws.{Hops, over, hop_told, hop_made, hop_sooner, hop_smaller}
 use Rattle.calls_compared.specs.Compared.{ask_by}
 

@@ -1,6 +1,7 @@
 pub mod Light
 pub mod Model
 pub mod Plan
+pub mod Props
 pub mod Single
 pub mod Tables
 pub mod Verdict

@@ -34,6 +34,15 @@ pub struct Span {
     pub other: NodeNo,
 }
 
+// A contact plan as it is lent: its two tables, each with the number of its rows. Nothing more is known of it.
+#[derive(Clone, Copy)]
+pub struct PlanTables<'a> {
+    pub contacts: &'a [u64],
+    pub contact_count: usize,
+    pub ranges: &'a [u64],
+    pub range_count: usize,
+}
+
 // How many words a row has.
 pub const WORDS: usize = 5;
 

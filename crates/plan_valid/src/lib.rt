@@ -4,7 +4,9 @@
 #![tactic(auto)]
 
 mod apart;
+mod checked;
 mod good;
 mod valid;
 
+pub use checked::CheckedPlan;
 pub use valid::is_plan;

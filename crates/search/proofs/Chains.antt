@@ -17,7 +17,7 @@ use Rattle.timing.specs.Chain.{Carries, stays, hops, Allowed}
 
 use Rattle.timing.specs.Model.{delivery_of}
 use Rattle.walk.specs.Walk.{GoodAsk}
-use Rattle.timing.proofs.Bounded.{contact_good}
+use Rattle.service.proofs.Bounded.{contact_good}
 use Rattle.timing.proofs.ChainLaws.{carry_complete, allowed_delivery}
 use Rattle.network.specs.Best.{Reaches}
 use Rattle.network.specs.Network.{at, Runs}

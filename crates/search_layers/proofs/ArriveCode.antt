@@ -18,7 +18,7 @@ use Rattle.service.specs.Service.{Service, Sound, contact_of, light_in, left_in,
 use Rattle.std.specs.Prelude.{Option, Some, None}
 use Rattle.timing.specs.Hop.{is_barred}
 use Rattle.timing.specs.Model.{over_contact}
-use Rattle.timing.proofs.Bounded.{contact_good, light_good}
+use Rattle.service.proofs.Bounded.{contact_good, light_good}
 use Rattle.timing.proofs.HopLaws.{hop_bounded}
 use Rattle.walk.specs.Walk.{GoodAsk}
 use Rattle.network.specs.Model.{behind}

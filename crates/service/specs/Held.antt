@@ -4,5 +4,5 @@ use Rattle.service.specs.declared.tables.ServedPlan.{ServedPlan}
 use Rattle.service.specs.Service.{Service}
 use Rattle.service.specs.Tables.{served}
 
-abbrev pub service_in : ServedPlan → Service
+unfoldable pub service_in : ServedPlan → Service
 service_in s = served s.contacts.now s.contact_count s.lights.now s.lefts.now

@@ -7,4 +7,4 @@ mod serving;
 mod tables;
 
 pub use serving::serve;
-pub use tables::{BLANK_LEFT, BLANK_LIGHT, ServedPlan, UNRANGED};
+pub use tables::{BLANK_LEFT, BLANK_LIGHT, Pass, ServedPlan};

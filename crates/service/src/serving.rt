@@ -1,19 +1,21 @@
 // A plan made ready to serve: each contact's light time and its volume, worked out once.
 ghost use Rattle.std.specs.Prelude.{true, ◌≡◌, ◌≤◌, length};
 ghost use Rattle.plan.specs.Plan.{GoodContact};
-ghost use Rattle.plan.specs.Tables.{IsPlan, plan_of};
 ghost use Rattle.plan_lists.specs.Lists.{InOrder};
 ghost use Rattle.plan_lists.specs.Model.{slots, most_rows};
 ghost use Rattle.plan_light.specs.Model.{RangesListed, Kept};
+ghost use Rattle.plan_valid.specs.Held.{plan_in};
+ghost use Rattle.service.specs.Held.{service_in};
 ghost use Rattle.service.specs.Model.{NoneKept};
 ghost use Rattle.service.specs.Service.{volume, service_of, unused, LightGood};
 ghost use Rattle.service.specs.Tables.{light_word, served};
 
-use crate::tables::UNRANGED;
+use crate::tables::{ServedPlan, UNRANGED};
 use plan::{Contact, contact_row};
 use plan_light::light_kept;
 use plan_lists::{BLANK, MOST_ROWS, SLOTS, link};
-use units::Millis;
+use plan_valid::CheckedPlan;
+use units::{MOST_CONTACTS, Millis};
 
 // A row that no table has: none is kept yet. Its bytes are not all the same, so that an array of it is
 // filled word by word and not byte by byte.
@@ -40,85 +42,71 @@ fn word_of(light: Option<Millis>) -> u32
 
 // Fills the tables with the plan as it serves an ask, by the lists of its ranges.
 fn serve_along(
-    contacts: &[u64],
-    contact_count: usize,
-    ranges: &[u64],
-    range_count: usize,
+    plan: &CheckedPlan,
     heads: &[u16],
     nexts: &[u16],
     ordered: bool,
     kept: &mut [u16],
-    lights: &mut [u32],
-    lefts: &mut [u64],
+    lights: &mut [u32; MOST_CONTACTS],
+    lefts: &mut [u64; MOST_CONTACTS],
 )
-    requires { IsPlan contacts.now contact_count ranges.now range_count × RangesListed ranges.now range_count heads.now nexts.now × Kept ranges.now range_count kept.old × (ordered ≡ true → InOrder ranges.now range_count nexts.now) × (contact_count ≤ length lights.old) × (contact_count ≤ length lefts.old) }
-    ensures { (served contacts.now contact_count lights.new lefts.new ≡ service_of (plan_of contacts.now contact_count ranges.now range_count) unused) × (length lights.new ≡ length lights.old) × (length lefts.new ≡ length lefts.old) }
+    requires { RangesListed plan.now.tables.ranges.now plan.now.tables.range_count heads.now nexts.now × Kept plan.now.tables.ranges.now plan.now.tables.range_count kept.old × (ordered ≡ true → InOrder plan.now.tables.ranges.now plan.now.tables.range_count nexts.now) }
+    ensures { served plan.now.tables.contacts.now plan.now.tables.contact_count lights.new lefts.new ≡ service_of (plan_in plan.now) unused }
 {
-    let mut k: usize = 0;
-    while k < contact_count {
-        let c = contact_row(contacts, k);
-        let light = light_kept(ranges, range_count, heads, nexts, ordered, kept, c);
+    for k in 0..plan.tables.contact_count {
+        let c = contact_row(plan.tables.contacts, k);
+        let light = light_kept(plan.tables.ranges, plan.tables.range_count, heads, nexts, ordered, kept, c);
         lights[k] = word_of(light);
         lefts[k] = volume_of(c);
-        k += 1;
     }
 }
 
 // The same, with the lists made in the lent words.
 fn serve_in(
-    contacts: &[u64],
-    contact_count: usize,
-    ranges: &[u64],
-    range_count: usize,
+    plan: &CheckedPlan,
     heads: &mut [u16],
     nexts: &mut [u16],
     kept: &mut [u16],
-    lights: &mut [u32],
-    lefts: &mut [u64],
+    lights: &mut [u32; MOST_CONTACTS],
+    lefts: &mut [u64; MOST_CONTACTS],
 )
-    requires { IsPlan contacts.now contact_count ranges.now range_count × (length heads.old ≡ slots) × (most_rows ≤ length nexts.old) × NoneKept kept.old × (contact_count ≤ length lights.old) × (contact_count ≤ length lefts.old) }
-    ensures { (served contacts.now contact_count lights.new lefts.new ≡ service_of (plan_of contacts.now contact_count ranges.now range_count) unused) × (length lights.new ≡ length lights.old) × (length lefts.new ≡ length lefts.old) }
+    requires { (length heads.old ≡ slots) × (most_rows ≤ length nexts.old) × NoneKept kept.old }
+    ensures { served plan.now.tables.contacts.now plan.now.tables.contact_count lights.new lefts.new ≡ service_of (plan_in plan.now) unused }
 {
-    let ordered = link(ranges, range_count, heads, nexts);
-    serve_along(
-        contacts,
-        contact_count,
-        ranges,
-        range_count,
-        heads,
-        nexts,
-        ordered,
-        kept,
-        lights,
-        lefts,
-    );
+    let ordered = link(plan.tables.ranges, plan.tables.range_count, heads, nexts);
+    serve_along(plan, heads, nexts, ordered, kept, lights, lefts);
 }
 
 // Fills the tables with the plan as it serves an ask, where nothing is used. The lists have words of
 // their own, and so has what is kept along them: nothing yet.
 pub fn serve(
-    contacts: &[u64],
-    contact_count: usize,
-    ranges: &[u64],
-    range_count: usize,
-    lights: &mut [u32],
-    lefts: &mut [u64],
+    plan: &CheckedPlan,
+    lights: &mut [u32; MOST_CONTACTS],
+    lefts: &mut [u64; MOST_CONTACTS],
 )
-    requires { IsPlan contacts.now contact_count ranges.now range_count × (contact_count ≤ length lights.old) × (contact_count ≤ length lefts.old) }
-    ensures { (served contacts.now contact_count lights.new lefts.new ≡ service_of (plan_of contacts.now contact_count ranges.now range_count) unused) × (length lights.new ≡ length lights.old) × (length lefts.new ≡ length lefts.old) }
+    ensures { served plan.now.tables.contacts.now plan.now.tables.contact_count lights.new lefts.new ≡ service_of (plan_in plan.now) unused }
 {
     let mut heads = [BLANK; SLOTS];
     let mut nexts = [BLANK; MOST_ROWS];
     let mut kept = [NONE; MOST_ROWS];
-    serve_in(
-        contacts,
-        contact_count,
-        ranges,
-        range_count,
-        &mut heads,
-        &mut nexts,
-        &mut kept,
-        lights,
-        lefts,
-    );
+    serve_in(plan, &mut heads, &mut nexts, &mut kept, lights, lefts);
+}
+
+impl<'a> ServedPlan<'a> {
+    // The plan as it serves an ask where nothing is booked, by way of the tables lent.
+    pub fn unbooked(
+        plan: &CheckedPlan<'a>,
+        lights: &'a mut [u32; MOST_CONTACTS],
+        lefts: &'a mut [u64; MOST_CONTACTS],
+    ) -> ServedPlan<'a>
+        ensures { service_in result ≡ service_of (plan_in plan.now) unused }
+    {
+        serve(plan, lights, lefts);
+        ServedPlan {
+            contacts: plan.tables.contacts,
+            contact_count: plan.tables.contact_count,
+            lights: lights,
+            lefts: lefts,
+        }
+    }
 }

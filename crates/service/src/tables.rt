@@ -1,7 +1,10 @@
 // What stands beside the contacts: a table of light times and one of the bytes that are left, and the struct
 // that keeps the three tables together and reads them.
-ghost use Rattle.std.specs.Prelude.{◌≡◌, ◌-◌, ◌≤◌, length};
-ghost use Rattle.service.specs.SoundProp.{is_service_prop};
+ghost use Rattle.std.specs.Prelude.{◌≡◌};
+ghost use Rattle.plan.specs.Plan.{GoodContact};
+ghost use Rattle.plan.specs.Props.{good_contact_prop};
+ghost use Rattle.service.specs.Service.{LightGood};
+ghost use Rattle.service.specs.SoundProp.{is_service_prop, light_good_prop};
 ghost use Rattle.service.specs.Tables.{light_word, IsService};
 
 use plan::{Contact, contact_numbered};
@@ -15,6 +18,16 @@ pub const BLANK_LEFT: u64 = 1;
 
 // The word of a contact that has no light time.
 pub const UNRANGED: u32 = 4_294_967_295;
+
+// A contact with its light time, if it has one, and the bytes that are left on it.
+#[derive(Clone, Copy)]
+pub struct Pass {
+    pub contact: Contact,
+    pub light: Option<Millis>,
+    pub left: u64,
+    pub ghost contact_good: { GoodContact contact } by { good_contact_prop _ },
+    pub ghost light_good: { LightGood light } by { light_good_prop _ },
+}
 
 // The plan as it serves an ask: its contacts, and beside each its light time and the bytes that are left on it.
 #[derive(Clone, Copy)]
@@ -38,8 +51,8 @@ fn light_of(word: u32) -> Option<Millis>
 }
 
 impl<'a> ServedPlan<'a> {
-    ghost use Rattle.plan.specs.Plan.{GoodContact};
-    ghost use Rattle.service.specs.Service.{InPlan, LightGood, contact_of, light_in, left_in};
+    ghost use Rattle.std.specs.Prelude.{◌≤◌};
+    ghost use Rattle.service.specs.Service.{InPlan, contact_of, light_in, left_in};
     ghost use Rattle.service.specs.Held.{service_in};
 
     // The contact of that number.
@@ -51,22 +64,18 @@ impl<'a> ServedPlan<'a> {
         contact_numbered(self.contacts, no)
     }
 
-    // Its light time, or none.
-    pub fn light(&self, no: ContactNo) -> Option<Millis>
+    // The contact of that number, with what stands beside it.
+    pub fn pass(&self, no: ContactNo) -> Pass
         requires { InPlan (service_in self.now) no.0 }
-        ensures is { result ≡ light_in (service_in self.now) no.0 }
-        ensures good { LightGood result }
+        ensures contact { result.contact ≡ contact_of (service_in self.now) no.0 }
+        ensures light { result.light ≡ light_in (service_in self.now) no.0 }
+        ensures left { result.left ≡ left_in (service_in self.now) no.0 }
     {
         let row = (no.0 - 1) as usize;
-        light_of(self.lights[row])
-    }
-
-    // The bytes that are left on it.
-    pub fn left(&self, no: ContactNo) -> u64
-        requires { InPlan (service_in self.now) no.0 }
-        ensures { result ≡ left_in (service_in self.now) no.0 }
-    {
-        let row = (no.0 - 1) as usize;
-        self.lefts[row]
+        Pass {
+            contact: self.contact(no),
+            light: light_of(self.lights[row]),
+            left: self.lefts[row],
+        }
     }
 }

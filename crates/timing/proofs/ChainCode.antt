@@ -31,7 +31,7 @@ use Rattle.service.specs.Service.{Service, Sound, LightGood, blank, contact_of, 
 use Rattle.service.specs.Tables.{light_at, left_at, served, IsService}
 use Rattle.timing.specs.Hop.{hopped, is_barred}
 use Rattle.timing.specs.Model.{goes_on, over_contact, step_over, carry}
-use Rattle.timing.proofs.Bounded.{light_good, contact_good}
+use Rattle.service.proofs.Bounded.{light_good, contact_good}
 use Rattle.timing.proofs.HopLaws.{hop_bounded}
 
 module _ (contacts : List ℕ) (m : ℕ) (lights lefts : List ℕ) where

@@ -25,7 +25,7 @@ use Rattle.service.specs.Service.{Service, Sound, contact_of, InPlan}
 use Rattle.timing.specs.Chain.{Carries, stays, hops, Allowed, ask_at, ask_of}
 use Rattle.timing.specs.Hop.{is_barred}
 use Rattle.timing.specs.Model.{goes_on, over_contact, onward, carry, delivery_of}
-use Rattle.timing.proofs.Bounded.{contact_good}
+use Rattle.service.proofs.Bounded.{contact_good}
 use Rattle.timing.proofs.HopLaws.{hop_after, hop_sooner, hop_smaller}
 
 same_ready : {x : Option Millis} {a b : Millis} → x ≡ Some a → x ≡ Some b → a.0 ≡ b.0

@@ -1,7 +1,6 @@
 -- The laws of hops and chains. The files named Code are what the proofs of the functions know.
 pub mod AllowedLaws
 pub mod Barred
-pub mod Bounded
 pub mod ChainCode
 pub mod ChainLaws
 pub mod Exclusion

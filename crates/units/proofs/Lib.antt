@@ -1,2 +1,3 @@
+pub mod AskLaws
 -- Laws of the refusals, for the crates above: RefusalLaws.
 pub mod RefusalLaws

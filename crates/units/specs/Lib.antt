@@ -1,3 +1,5 @@
+pub mod Asks
+pub mod Checked
 pub mod Limits
 pub mod Model
 pub mod Refusals

@@ -3,6 +3,10 @@
 
 #![tactic(auto)]
 
+mod asks;
+
+pub use asks::{CheckedAsk, is_good_ask};
+
 // The number of a contact: its line's place among the contact lines, counted from 1.
 #[derive(Clone, Copy, PartialEq, Eq, PartialOrd, Ord)]
 pub struct ContactNo(pub u64);

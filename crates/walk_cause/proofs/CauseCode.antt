@@ -30,7 +30,7 @@ use Rattle.service.specs.Service.{Service, Sound, contact_of, light_in, left_in,
 use Rattle.service.specs.Tables.{light_at, served}
 use Rattle.timing.specs.Hop.{is_barred}
 use Rattle.timing.specs.Model.{over_contact}
-use Rattle.timing.proofs.Bounded.{light_good, contact_good}
+use Rattle.service.proofs.Bounded.{light_good, contact_good}
 use Rattle.timing.proofs.ChainCode.{length_served, contact_lent, light_lent, named_in_plan}
 use Rattle.timing.proofs.HopLaws.{hop_bounded}
 use Rattle.walk_cause.specs.declared.judging.Judged.{Judged}

@@ -7,6 +7,4 @@ use Rattle.service.proofs.serving.serve.Goals as goal
 
 pub serve_in-requires : goal.serve_in-requires
 unfolding slots most_rows
-serve_in-requires c =
-    let pre = c.requires in
-    (pre.0, omega arith, omega arith, none_kept _ (omega arith), pre.1, pre.2)
+serve_in-requires c = (omega arith, omega arith, none_kept _ (omega arith))

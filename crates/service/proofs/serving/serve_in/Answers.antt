@@ -7,16 +7,14 @@ use Rattle.service.proofs.serving.serve_in.Goals as goal
 pub link-ordered-requires : goal.link-ordered-requires
 link-ordered-requires c =
     let pre = c.requires in
-    ranges_linkable _ _ _ _ pre.0 _ _ pre.1 pre.2
+    ranges_linkable _ _ _ _ c.args.plan.now.valid _ _ pre.0 pre.1
 
 pub serve_along-requires : goal.serve_along-requires
 serve_along-requires c =
     let pre = c.requires in
+    let valid = c.args.plan.now.valid in
     let linked = c.link-ordered.ensures in (
-      pre.0,
-      ranges_listed _ _ _ _ pre.0 c.args.heads.now c.args.nexts.now pre.1 pre.2 _ _ linked.0 linked.1 linked.2,
-      kept_none _ _ _ _ pre.0 c.args.heads.now c.args.nexts.now pre.1 pre.2 _ pre.3,
+      ranges_listed _ _ _ _ valid c.args.heads.now c.args.nexts.now pre.0 pre.1 _ _ linked.0 linked.1 linked.2,
+      kept_none _ _ _ _ valid c.args.heads.now c.args.nexts.now pre.0 pre.1 _ pre.2,
       true_holds linked.3,
-      pre.4,
-      pre.5,
     )

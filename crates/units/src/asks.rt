@@ -1,0 +1,44 @@
+// An ask that was checked once, so that no function behind the check asks again.
+ghost use Rattle.std.specs.Prelude.{◌≡◌};
+ghost use Rattle.units.specs.Asks.{GoodAsk};
+ghost use Rattle.units.specs.Model.{good_ask};
+
+use crate::{Ask, LAST_TIME, MOST_SIZE, Refusal, is_node};
+
+// Whether every value of the ask is in its range.
+#[tactic(auto, unfolding(crate::specs::Limits::last_time, crate::specs::Limits::most_size))]
+pub fn is_good_ask(ask: Ask) -> bool
+    ensures { result ≡ good_ask ask }
+{
+    is_node(ask.source)
+        & is_node(ask.destination)
+        & (ask.time.0 <= LAST_TIME)
+        & (1 <= ask.size)
+        & (ask.size <= MOST_SIZE)
+        & (ask.deadline.0 <= LAST_TIME)
+}
+
+// An ask with every value in its range, between two different nodes.
+#[derive(Clone, Copy)]
+pub struct CheckedAsk {
+    pub ask: Ask,
+    pub ghost good: { GoodAsk ask },
+    pub ghost differ: { ask.source.0 ≡ ask.destination.0 → ⊥ },
+}
+
+impl CheckedAsk {
+    ghost use Rattle.units.specs.Checked.{ChecksAsk};
+
+    // The ask as a checked one, or why it is refused: its values first.
+    pub fn of(ask: Ask) -> Result<CheckedAsk, Refusal>
+        ensures { ChecksAsk ask result }
+    {
+        if !is_good_ask(ask) {
+            return Err(Refusal::AskValue);
+        }
+        if ask.source == ask.destination {
+            return Err(Refusal::SameNode);
+        }
+        Ok(CheckedAsk { ask })
+    }
+}
