@@ -1,7 +1,10 @@
+pub mod Lent
 pub mod Light
 pub mod Model
 pub mod Plan
 pub mod Props
+pub mod RowKinds
+pub mod Rows
 pub mod Single
 pub mod Tables
 pub mod Verdict

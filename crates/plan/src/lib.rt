@@ -5,7 +5,11 @@
 #![tactic(auto)]
 
 mod rows;
+mod tables;
 mod valid;
 
-pub use rows::{Contact, PlanTables, Range, Span, WORDS, contact_numbered, contact_row, range_row, span_row};
+pub use rows::{
+    Contact, Range, Row, Span, WORDS, contact_numbered, contact_row, range_row, span_row,
+};
+pub use tables::PlanTables;
 pub use valid::{is_clear, is_good_contact, is_good_range, is_overlap};

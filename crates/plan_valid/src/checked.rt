@@ -1,6 +1,6 @@
 // A plan that was checked once, so that no function behind the check asks again.
+ghost use Rattle.plan.specs.Lent.{HoldPlan};
 ghost use Rattle.plan.specs.Props.{is_plan_prop};
-ghost use Rattle.plan.specs.Tables.{IsPlan};
 
 use crate::valid::is_plan;
 use plan::PlanTables;
@@ -9,15 +9,15 @@ use plan::PlanTables;
 #[derive(Clone, Copy)]
 pub struct CheckedPlan<'a> {
     pub tables: PlanTables<'a>,
-    pub ghost valid: { IsPlan tables.contacts.now tables.contact_count tables.ranges.now tables.range_count } by { is_plan_prop _ _ _ _ },
+    pub ghost valid: { HoldPlan tables } by { is_plan_prop _ _ _ _ },
 }
 
 impl<'a> CheckedPlan<'a> {
     ghost use Rattle.std.specs.Prelude.{◌≡◌, MatchOption};
 
     // The tables as a checked plan, or nothing where they do not hold a valid one.
-    pub fn of(tables: &PlanTables<'a>) -> Option<CheckedPlan<'a>>
-        ensures { MatchOption result (IsPlan tables.now.contacts.now tables.now.contact_count tables.now.ranges.now tables.now.range_count → ⊥) (λ p. p.tables ≡ tables.now) }
+    pub fn of(tables: PlanTables<'a>) -> Option<CheckedPlan<'a>>
+        ensures { MatchOption result (HoldPlan tables.entry → ⊥) (λ p. p.tables ≡ tables.entry) }
     {
         if is_plan(
             tables.contacts,
@@ -25,7 +25,7 @@ impl<'a> CheckedPlan<'a> {
             tables.ranges,
             tables.range_count,
         ) {
-            Some(CheckedPlan { tables: *tables })
+            Some(CheckedPlan { tables })
         } else {
             None
         }

@@ -1,10 +1,11 @@
 // A plan made ready to serve: each contact's light time and its volume, worked out once.
 ghost use Rattle.std.specs.Prelude.{true, ◌≡◌, ◌≤◌, length};
 ghost use Rattle.plan.specs.Plan.{GoodContact};
+ghost use Rattle.plan.specs.Lent.{plan_in};
 ghost use Rattle.plan_lists.specs.Lists.{InOrder};
 ghost use Rattle.plan_lists.specs.Model.{slots, most_rows};
 ghost use Rattle.plan_light.specs.Model.{RangesListed, Kept};
-ghost use Rattle.plan_valid.specs.Held.{plan_in};
+
 ghost use Rattle.service.specs.Held.{service_in};
 ghost use Rattle.service.specs.Model.{NoneKept};
 ghost use Rattle.service.specs.Service.{volume, service_of, unused, LightGood};
@@ -51,7 +52,7 @@ fn serve_along(
     lefts: &mut [u64; MOST_CONTACTS],
 )
     requires { RangesListed plan.now.tables.ranges.now plan.now.tables.range_count heads.now nexts.now × Kept plan.now.tables.ranges.now plan.now.tables.range_count kept.old × (ordered ≡ true → InOrder plan.now.tables.ranges.now plan.now.tables.range_count nexts.now) }
-    ensures { served plan.now.tables.contacts.now plan.now.tables.contact_count lights.new lefts.new ≡ service_of (plan_in plan.now) unused }
+    ensures { served plan.now.tables.contacts.now plan.now.tables.contact_count lights.new lefts.new ≡ service_of (plan_in plan.now.tables) unused }
 {
     for k in 0..plan.tables.contact_count {
         let c = contact_row(plan.tables.contacts, k);
@@ -71,7 +72,7 @@ fn serve_in(
     lefts: &mut [u64; MOST_CONTACTS],
 )
     requires { (length heads.old ≡ slots) × (most_rows ≤ length nexts.old) × NoneKept kept.old }
-    ensures { served plan.now.tables.contacts.now plan.now.tables.contact_count lights.new lefts.new ≡ service_of (plan_in plan.now) unused }
+    ensures { served plan.now.tables.contacts.now plan.now.tables.contact_count lights.new lefts.new ≡ service_of (plan_in plan.now.tables) unused }
 {
     let ordered = link(plan.tables.ranges, plan.tables.range_count, heads, nexts);
     serve_along(plan, heads, nexts, ordered, kept, lights, lefts);
@@ -84,7 +85,7 @@ pub fn serve(
     lights: &mut [u32; MOST_CONTACTS],
     lefts: &mut [u64; MOST_CONTACTS],
 )
-    ensures { served plan.now.tables.contacts.now plan.now.tables.contact_count lights.new lefts.new ≡ service_of (plan_in plan.now) unused }
+    ensures { served plan.now.tables.contacts.now plan.now.tables.contact_count lights.new lefts.new ≡ service_of (plan_in plan.now.tables) unused }
 {
     let mut heads = [BLANK; SLOTS];
     let mut nexts = [BLANK; MOST_ROWS];
@@ -99,7 +100,7 @@ impl<'a> ServedPlan<'a> {
         lights: &'a mut [u32; MOST_CONTACTS],
         lefts: &'a mut [u64; MOST_CONTACTS],
     ) -> ServedPlan<'a>
-        ensures { service_in result ≡ service_of (plan_in plan.now) unused }
+        ensures { service_in result ≡ service_of (plan_in plan.now.tables) unused }
     {
         serve(plan, lights, lefts);
         ServedPlan {

@@ -7,7 +7,6 @@ use native.Mathlib.Omega.{arith}
 use lib.ListN.{length}
 use Rattle.units.specs.Limits.{most_contacts}
 use Rattle.plan.proofs.Lent.{contacts_counted}
-use Rattle.plan_valid.specs.Held.{plan_in}
 use Rattle.service.proofs.ServingCode.{row_good, light_in_range, beside_more, beside_all}
 use Rattle.service.proofs.serving.serve_along.Goals as goal
 
@@ -41,5 +40,4 @@ loop-k-preserved c =
     (beside_more _ _ _ _ _ _ _ lights_room lefts_room _ _ c.contact_row-c.ensures told.0 c.word_of.ensures c.volume_of.ensures inv.0, told.1)
 
 pub returns : goal.returns
-unfolding plan_in
 returns c = beside_all _ _ _ _ _ _ (λ j h. c.loop-k.invariant.0 j (omega (arith, c.loop-k-test.false)))

@@ -3,13 +3,12 @@
 use native.Mathlib.Omega.{arith}
 use Rattle.units.specs.Limits.{most_contacts}
 use Rattle.plan.proofs.Lent.{contacts_counted}
-use Rattle.plan_valid.specs.Held.{plan_in}
 use Rattle.service.specs.Held.{service_in}
 use Rattle.service.proofs.ServiceLaws.{is_service}
 use Rattle.service.proofs.tables.ServedPlan.unbooked.Goals as goal
 
 pub invariant_of-result : goal.invariant_of-result
-unfolding most_contacts plan_in
+unfolding most_contacts
 invariant_of-result c =
     let valid = c.args.plan.now.valid in
     let few = contacts_counted _ _ _ _ valid in
