@@ -6,9 +6,10 @@
 --     BoardBooks            the best chain is found and booked, as `BooksRoute` says
 --     BoardReleases         a booking is released, as `Releases` says
 -- Assumes nothing.
-use Rattle.std.specs.Prelude.{List, ℕ, ◌≤◌, ◌<◌, length}
+use Rattle.std.specs.Prelude.{List, ℕ, ◌≤◌, ◌<◌, length, Result}
 use Rattle.units.specs.declared.Ask.{Ask}
-use Rattle.walk.specs.declared.figures.Walked.{Walked}
+use Rattle.units.specs.declared.Refusal.{Refusal}
+use Rattle.walk.specs.declared.figures.Figures.{Figures}
 use Rattle.search.specs.declared.answer.Routed.{Routed}
 use Rattle.calls.specs.Calls.{WalksBooked, RoutesBooked}
 use Rattle.calls_book.specs.declared.answers.Placed.{Placed}
@@ -19,7 +20,7 @@ use Rattle.board_face.specs.Layout.{answer_words, booked_words, no_room_number, 
 module _ (contacts : List ℕ) (m : ℕ) (ranges : List ℕ) (n : ℕ) (book booked : List ℕ) where
   pub data BoardWalksBooked (ask : Ask) (class : ℕ) (chain answer : List ℕ) : ℕ → List ℕ → Type 0 where
     no_room : length answer < answer_words → BoardWalksBooked ask class chain answer no_room_number answer
-    called : {r : Walked} {number : ℕ} {answer' : List ℕ} → answer_words ≤ length answer
+    called : {r : Result Figures Refusal} {number : ℕ} {answer' : List ℕ} → answer_words ≤ length answer
         → WalksBooked contacts m ranges n book booked ask class chain r → Answered (walked_words r) answer number answer'
         → BoardWalksBooked ask class chain answer number answer'
 

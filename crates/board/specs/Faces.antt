@@ -6,12 +6,13 @@
 --     BoardWalks       a given chain is timed, as `Walks` says
 --     BoardRoutes      the best chain is found, as `Routes` says
 -- Assumes nothing.
-use Rattle.std.specs.Prelude.{List, ℕ, ◌≤◌, ◌<◌, length}
+use Rattle.std.specs.Prelude.{List, ℕ, ◌≤◌, ◌<◌, length, Result}
 use Rattle.units.specs.declared.Ask.{Ask}
 use Rattle.text.specs.declared.answer.PlanRead.{PlanRead}
 use Rattle.text.specs.declared.answer.Written.{Written}
 use Rattle.text.specs.Calls.{Reads, Writes}
-use Rattle.walk.specs.declared.figures.Walked.{Walked}
+use Rattle.units.specs.declared.Refusal.{Refusal}
+use Rattle.walk.specs.declared.figures.Figures.{Figures}
 use Rattle.walk.specs.Walk.{Walks}
 use Rattle.search.specs.declared.answer.Routed.{Routed}
 use Rattle.search.specs.Route.{Routes}
@@ -30,7 +31,7 @@ pub data BoardWrites (contacts : List ℕ) (m : ℕ) (ranges : List ℕ) (n : �
 
 pub data BoardWalks (contacts : List ℕ) (m : ℕ) (ranges : List ℕ) (n : ℕ) (ask : Ask) (chain answer : List ℕ) : ℕ → List ℕ → Type 0 where
   no_room : length answer < answer_words → BoardWalks contacts m ranges n ask chain answer no_room_number answer
-  called : {r : Walked} {number : ℕ} {answer' : List ℕ} → answer_words ≤ length answer → Walks contacts m ranges n ask chain r
+  called : {r : Result Figures Refusal} {number : ℕ} {answer' : List ℕ} → answer_words ≤ length answer → Walks contacts m ranges n ask chain r
       → Answered (walked_words r) answer number answer' → BoardWalks contacts m ranges n ask chain answer number answer'
 
 pub data BoardRoutes (contacts : List ℕ) (m : ℕ) (ranges : List ℕ) (n : ℕ) (ask : Ask) (chain answer : List ℕ) : ℕ → List ℕ → List ℕ → Type 0 where

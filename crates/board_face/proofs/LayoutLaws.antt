@@ -12,8 +12,7 @@ use Rattle.text.specs.declared.answer.PlanRead.TheVariants.{Rows, Refused as Not
 use Rattle.text.specs.declared.answer.Written.{Written}
 use Rattle.text.specs.declared.answer.Written.TheVariants.{Length, Refused as NotWritten}
 use Rattle.walk.specs.declared.figures.Figures.{Figures}
-use Rattle.walk.specs.declared.figures.Walked.{Walked}
-use Rattle.walk.specs.declared.figures.Walked.TheVariants.{Carried, Refused as NotWalked}
+use Rattle.std.specs.Prelude.{Result, Ok, Err}
 use Rattle.search.specs.declared.answer.Routed.{Routed}
 use Rattle.search.specs.declared.answer.Routed.TheVariants.{Best, Refused as NotRouted}
 use Rattle.calls_book.specs.declared.answers.Placed.{Placed}
@@ -52,10 +51,10 @@ written_words_determined (Length m) (NotWritten why) e = refusal_told_apart why 
 written_words_determined (NotWritten why) (Length n) e = refusal_told_apart why _ (sym e)
 written_words_determined (NotWritten a) (NotWritten b) e = ap NotWritten (refusal_words_determined a b e)
 
-pub walked_words_determined : (a b : Walked) → walked_words a ≡ walked_words b → a ≡ b
-walked_words_determined (Carried f) (Carried g) e = ap Carried (figures_determined f g [] [] (cc))
-walked_words_determined (Carried f) (NotWalked why) e = refusal_told_apart why _ e
-walked_words_determined (NotWalked why) (Carried f) e = refusal_told_apart why _ (sym e)
+pub walked_words_determined : (a b : Result Figures Refusal) → walked_words a ≡ walked_words b → a ≡ b
+walked_words_determined (Ok f) (Ok g) e = ap Ok (figures_determined f g [] [] (cc))
+walked_words_determined (Ok f) (NotWalked why) e = refusal_told_apart why _ e
+walked_words_determined (NotWalked why) (Ok f) e = refusal_told_apart why _ (sym e)
 walked_words_determined (NotWalked a) (NotWalked b) e = ap NotWalked (refusal_words_determined a b e)
 
 pub routed_words_determined : (a b : Routed) → routed_words a ≡ routed_words b → a ≡ b

@@ -5,7 +5,7 @@
 --     read_words, written_words, walked_words, routed_words, placed_words, released_words      the words of each call's answer: a refusal's, or 0, 0 and the figures
 --     Answered                 what is returned, and the lent answer afterwards
 -- Assumes nothing.
-use Rattle.std.specs.Prelude.{List, [], ◌∷◌, ◌++◌, ◌≡◌, ℕ, length, get_or, drop}
+use Rattle.std.specs.Prelude.{List, [], ◌∷◌, ◌++◌, ◌≡◌, ℕ, length, get_or, drop, Result, Ok, Err}
 use Rattle.units.specs.declared.Refusal.{Refusal}
 use Rattle.units.specs.declared.Refusal.TheVariants.{ShortOutput}
 use Rattle.units.specs.Refusals.{number_of, place_of}
@@ -13,8 +13,7 @@ use Rattle.text.specs.declared.answer.PlanRead.{PlanRead}
 use Rattle.text.specs.declared.answer.PlanRead.TheVariants.{Rows, Refused as NotRead}
 use Rattle.text.specs.declared.answer.Written.{Written}
 use Rattle.text.specs.declared.answer.Written.TheVariants.{Length, Refused as NotWritten}
-use Rattle.walk.specs.declared.figures.Walked.{Walked}
-use Rattle.walk.specs.declared.figures.Walked.TheVariants.{Carried, Refused as NotWalked}
+use Rattle.walk.specs.declared.figures.Figures.{Figures}
 use Rattle.search.specs.declared.answer.Routed.{Routed}
 use Rattle.search.specs.declared.answer.Routed.TheVariants.{Best, Refused as NotRouted}
 use Rattle.calls_book.specs.declared.answers.Placed.{Placed}
@@ -49,8 +48,8 @@ written_words (Length n) = 0 ∷ 0 ∷ n ∷ []
 written_words (NotWritten why) = refusal_words why
 
 -- delivery, opens, last call and room
-abbrev pub walked_words : Walked → List ℕ
-walked_words (Carried f) = 0 ∷ 0 ∷ f.delivery.0 ∷ f.opens.0 ∷ f.last_call.0 ∷ f.room ∷ []
+abbrev pub walked_words : Result Figures Refusal → List ℕ
+walked_words (Ok f) = 0 ∷ 0 ∷ f.delivery.0 ∷ f.opens.0 ∷ f.last_call.0 ∷ f.room ∷ []
 walked_words (NotWalked why) = refusal_words why
 
 -- the same, and the count of contacts

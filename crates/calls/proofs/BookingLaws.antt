@@ -15,8 +15,8 @@ use Rattle.plan.specs.Tables.{plan_of}
 use Rattle.service.specs.Service.{Service, service_of, unused}
 use Rattle.book.specs.Book.{Booking, used}
 use Rattle.book.specs.Tables.{IsBook, book_of}
-use Rattle.walk.specs.declared.figures.Walked.{Walked}
-use Rattle.walk.specs.declared.figures.Walked.TheVariants.{Refused as NotWalked}
+use Rattle.std.specs.Prelude.{Result, Ok, Err}
+use Rattle.walk.specs.declared.figures.Figures.{Figures}
 use Rattle.walk.specs.Walk.{WalksPlan, Walks}
 use Rattle.walk.specs.Walk as Alone
 use Rattle.walk.proofs.Theorems.{walks_plan_determined}
@@ -79,7 +79,7 @@ module _ {contacts : List ℕ} {m : ℕ} {ranges : List ℕ} {n : ℕ} {book cha
   checked_good (all_good g) = g
 
   module _ {chain : List ℕ} where
-    pub walks_booked_determined : {a b : Walked} → WalksBooked contacts m ranges n book chains ask class chain a
+    pub walks_booked_determined : {a b : Result Figures Refusal} → WalksBooked contacts m ranges n book chains ask class chain a
         → WalksBooked contacts m ranges n book chains ask class chain b → a ≡ b
     walks_booked_determined (stopped c) (stopped d) = ap NotWalked (same_stop (checked_determined c d))
     walks_booked_determined (stopped c) (walked d w) = stop_go (checked_determined c d)
@@ -107,13 +107,13 @@ same_service p bs class empty = ap (λ (xs : List Booking). service_of p (used x
 
 module _ {contacts : List ℕ} {m : ℕ} {ranges : List ℕ} {n : ℕ} {book chains : List ℕ} {ask : Ask} {class : ℕ} (its : IsBook m book chains)
     (empty : book_of book chains ≡ []) (good : GoodClass class) where
-  pub walks_empty : {chain : List ℕ} {w : Walked} → WalksBooked contacts m ranges n book chains ask class chain w ↔ Walks contacts m ranges n ask chain w
+  pub walks_empty : {chain : List ℕ} {w : Result Figures Refusal} → WalksBooked contacts m ranges n book chains ask class chain w ↔ Walks contacts m ranges n ask chain w
   walks_empty {chain} = (to, from)
     where
       same : with_book (plan_of contacts m ranges n) (book_of book chains) class ≡ service_of (plan_of contacts m ranges n) unused
       same = same_service (plan_of contacts m ranges n) (book_of book chains) class empty
 
-      to : {w : Walked} → WalksBooked contacts m ranges n book chains ask class chain w → Walks contacts m ranges n ask chain w
+      to : {w : Result Figures Refusal} → WalksBooked contacts m ranges n book chains ask class chain w → Walks contacts m ranges n ask chain w
       to (stopped (no_plan f)) = Alone.no_plan f
       to (stopped (no_book p f)) = absurd (f its)
       to (stopped (bad_ask p b f)) = Alone.bad_ask p f
@@ -122,7 +122,7 @@ module _ {contacts : List ℕ} {m : ℕ} {ranges : List ℕ} {n : ℕ} {book cha
       to (walked {w} (all_good g) v) =
           Alone.walked g.plan g.ask_is_good g.differ (subst (λ (s : Service). WalksPlan s ask chain w) same v)
 
-      from : {w : Walked} → Walks contacts m ranges n ask chain w → WalksBooked contacts m ranges n book chains ask class chain w
+      from : {w : Result Figures Refusal} → Walks contacts m ranges n ask chain w → WalksBooked contacts m ranges n book chains ask class chain w
       from (Alone.no_plan f) = stopped (no_plan f)
       from (Alone.bad_ask p f) = stopped (bad_ask p its f)
       from (Alone.same_node p a e) = stopped (same_node p its a good e)

@@ -11,7 +11,7 @@ use Rattle.plan.specs.Tables.{IsPlan}
 use Rattle.service.specs.Service.{Service, service_of}
 use Rattle.book.specs.Book.{Booking, used}
 use Rattle.book.specs.Tables.{IsBook}
-use Rattle.walk.specs.Walk.{GoodAsk}
+use Rattle.units.specs.Asks.{GoodAsk}
 use Rattle.calls.specs.declared.checking.Check.{Check}
 use Rattle.calls.specs.declared.checking.Check.TheVariants.{Stop, Go}
 

@@ -2,15 +2,14 @@
 --     WalksBooked      a given chain is timed: 9, 11, 24, 12, 16, 14, or its figures
 --     RoutesBooked     the best chain: 15, 9, 11, 24, 12, 13, 14, or its figures and its numbers
 -- Assumes nothing.
-use Rattle.std.specs.Prelude.{List, ℕ, ◌≤◌, ◌<◌, length}
+use Rattle.std.specs.Prelude.{List, ℕ, ◌≤◌, ◌<◌, length, Result, Ok, Err}
 use Rattle.units.specs.Limits.{most_chain}
 use Rattle.units.specs.declared.Ask.{Ask}
 use Rattle.units.specs.declared.Refusal.{Refusal}
 use Rattle.units.specs.declared.Refusal.TheVariants.{ShortChain}
 use Rattle.plan.specs.Tables.{plan_of}
 use Rattle.book.specs.Tables.{book_of}
-use Rattle.walk.specs.declared.figures.Walked.{Walked}
-use Rattle.walk.specs.declared.figures.Walked.TheVariants.{Refused as NotWalked}
+use Rattle.walk.specs.declared.figures.Figures.{Figures}
 use Rattle.walk.specs.Walk.{WalksPlan}
 use Rattle.search.specs.declared.answer.Routed.{Routed}
 use Rattle.search.specs.declared.answer.Routed.TheVariants.{Refused as NotRouted}
@@ -20,9 +19,9 @@ use Rattle.calls.specs.declared.checking.Check.TheVariants.{Stop, Go}
 
 module _ (contacts : List ℕ) (m : ℕ) (ranges : List ℕ) (n : ℕ) (book chains : List ℕ) (ask : Ask) (class : ℕ) where
   -- the answer for lent tables, any ask, any class and any chain
-  pub data WalksBooked (chain : List ℕ) : Walked → Type 0 where
+  pub data WalksBooked (chain : List ℕ) : Result Figures Refusal → Type 0 where
     stopped : {why : Refusal} → Checked contacts m ranges n book chains ask class (Stop why) → WalksBooked chain (NotWalked why)
-    walked : {w : Walked} → Checked contacts m ranges n book chains ask class Go
+    walked : {w : Result Figures Refusal} → Checked contacts m ranges n book chains ask class Go
         → WalksPlan (with_book (plan_of contacts m ranges n) (book_of book chains) class) ask chain w → WalksBooked chain w
 
   -- the answer for lent tables, any ask, any class and any lent chain; `before` is what the lent chain holds before the call, the last list what it

@@ -19,7 +19,7 @@ use Rattle.service.proofs.ServiceLaws.{service_sound}
 use Rattle.book.specs.Book.{used}
 use Rattle.book.specs.Tables.{IsBook, book_of}
 use Rattle.timing.specs.Chain.{ask_at}
-use Rattle.walk.specs.Walk.{GoodAsk}
+use Rattle.units.specs.Asks.{GoodAsk}
 use Rattle.network.specs.Network.{When}
 use Rattle.search.specs.Route.{RoutesPlan, no_chain, too_late, best}
 use Rattle.search.specs.Route as Alone

@@ -18,7 +18,7 @@ use Rattle.timing.specs.Chain.{Carries, stays, hops, Allowed, InTime, ask_at, as
 use Rattle.timing.specs.Hop.{is_barred}
 use Rattle.walk.specs.declared.figures.Figures.{Figures}
 use Rattle.walk.specs.Figures.{IsLastCall, IsRoom, HasFigures}
-use Rattle.walk.specs.Walk.{GoodAsk}
+use Rattle.units.specs.Asks.{GoodAsk}
 use Rattle.walk.proofs.Theorems.{figures_bounded}
 use Rattle.network.specs.Network.{When, at, NotLater, both, last}
 use Rattle.search.specs.Route.{IsBest, RoutesPlan, no_chain, too_late, best}

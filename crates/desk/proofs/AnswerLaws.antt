@@ -24,9 +24,10 @@ use Rattle.timing.specs.Hop.{start_on}
 use Rattle.timing.proofs.ChainLaws.{carries_after}
 use Rattle.timing.proofs.HopLaws.{hop_sent}
 use Rattle.walk.specs.declared.figures.Figures.{Figures}
-use Rattle.walk.specs.declared.figures.Walked.TheVariants.{Carried}
+use Rattle.std.specs.Prelude.{Ok, Err}
 use Rattle.walk.specs.Figures.{HasFigures}
-use Rattle.walk.specs.Walk.{GoodAsk, carried, Walks, walked}
+use Rattle.units.specs.Asks.{GoodAsk}
+use Rattle.walk.specs.Walk.{carried, Walks, walked}
 use Rattle.walk.proofs.LastCallCode.{carries_named}
 use Rattle.walk.proofs.Theorems.{figures_bounded}
 use Rattle.text.specs.Digits.{decimal}
@@ -157,7 +158,7 @@ module _ {contacts : List ℕ} {m : ℕ} {ranges : List ℕ} {n : ℕ} {ask : As
   pub route_line_short : {answer : Routed} {chain : List ℕ} → Routes contacts m ranges n ask before answer chain → length (answer_bytes answer chain) ≤ 305
   route_line_short {answer} {chain} r = go answer r
     where
-      told : (f : Figures) (k : ℕ) → Walks contacts m ranges n ask (take k chain) (Carried f) → k ≤ most_chain → length (answer_bytes (Best f k) chain) ≤ 305
+      told : (f : Figures) (k : ℕ) → Walks contacts m ranges n ask (take k chain) (Ok f) → k ≤ most_chain → length (answer_bytes (Best f k) chain) ≤ 305
       told f k (walked plan good differ (carried has)) few = best_line_short f k chain (service_sound _ plan.valid unused) good has few
 
       go : (a : Routed) → Routes contacts m ranges n ask before a chain → length (answer_bytes a chain) ≤ 305

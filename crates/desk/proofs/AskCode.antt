@@ -30,8 +30,8 @@ use Rattle.text.proofs.Shapes.{number_tells, shaped_tells}
 use Rattle.text_lines.specs.Model.{capped_value, fields_from, good_fields}
 use Rattle.text_lines.proofs.BytesCode.{same_unlike}
 use Rattle.text_lines.proofs.LineCode.{capped_word, fields_are, shape_is}
-use Rattle.walk.specs.Model.{good_ask}
-use Rattle.walk.specs.Walk.{GoodAsk}
+use Rattle.units.specs.Model.{good_ask}
+use Rattle.units.specs.Asks.{GoodAsk}
 use Rattle.walk.proofs.WalkCode.{good_ask_tells}
 use Rattle.desk.specs.AskModel.{ends_in, most_digits, good_excluded, pick_read, judged_ask}
 use Rattle.desk.specs.Asks.{ask_word, ask_numbers, ask_of_numbers, ask_said, most_excluded, InRange, ReadsAsk, bad_shape, bad_value, asked}

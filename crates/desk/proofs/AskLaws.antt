@@ -10,7 +10,7 @@ use Rattle.plan.proofs.Verdicts.{tells_le, both}
 use Rattle.text.specs.Lines.{Line}
 use Rattle.text.specs.Rows.{Shaped}
 use Rattle.text.proofs.Shapes.{shaped_tells}
-use Rattle.walk.specs.Walk.{GoodAsk}
+use Rattle.units.specs.Asks.{GoodAsk}
 use Rattle.walk.proofs.WalkCode.{good_ask_tells}
 use Rattle.desk.specs.Asks.{ask_word, ask_numbers, ask_said, most_excluded, ReadsAsk, bad_shape, bad_value, asked}
 use Rattle.desk.specs.declared.ask.AskRead.{AskRead}

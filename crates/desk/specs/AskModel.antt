@@ -6,7 +6,7 @@ use Rattle.std.specs.Prelude.{Bool, true, false, not, ◌&&◌, ◌||◌, List, 
 use Rattle.units.specs.declared.Refusal.TheVariants.{AskValue}
 use Rattle.text.specs.Lines.{tab}
 use Rattle.text.specs.Model.{same}
-use Rattle.walk.specs.Model.{good_ask}
+use Rattle.units.specs.Model.{good_ask}
 use Rattle.desk.specs.Asks.{ask_of_numbers, most_excluded}
 use Rattle.desk.specs.declared.ask.AskRead.{AskRead}
 use Rattle.desk.specs.declared.ask.AskRead.TheVariants.{Asked, Refused}

@@ -8,7 +8,7 @@ use Rattle.units.specs.declared.Refusal.TheVariants.{AskValue, AskShape}
 use Rattle.text.specs.Digits.{value}
 use Rattle.text.specs.Lines.{Line}
 use Rattle.text.specs.Rows.{Shaped}
-use Rattle.walk.specs.Walk.{GoodAsk}
+use Rattle.units.specs.Asks.{GoodAsk}
 use Rattle.desk.specs.declared.ask.AskRead.{AskRead}
 use Rattle.desk.specs.declared.ask.AskRead.TheVariants.{Asked, Refused}
 

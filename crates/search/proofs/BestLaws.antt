@@ -13,12 +13,11 @@ use Rattle.units.specs.Limits.{most_nodes, most_chain}
 use Rattle.units.specs.declared.Ask.{Ask}
 use Rattle.service.specs.Service.{Service, Sound}
 use Rattle.timing.specs.Chain.{Allowed}
-use Rattle.walk.specs.Walk.{GoodAsk}
+use Rattle.units.specs.Asks.{GoodAsk}
 use Rattle.network.specs.Best.{Reaches, Best}
 use Rattle.network.proofs.Theorems.{best_short}
 use Rattle.network.proofs.Unique.{First, first_unique}
-use Rattle.search_layers.specs.Bridge.{network_of}
-use Rattle.search_layers.specs.Bridge.{goal}
+use Rattle.search_layers.specs.Bridge.{network_of, goal}
 use Rattle.search.specs.Route.{IsBest}
 use Rattle.search.proofs.Chains.{allowed_reaches}
 use Rattle.search_layers.proofs.NetworkLaws.{network_laws}

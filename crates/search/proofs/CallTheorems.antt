@@ -19,7 +19,7 @@ use Rattle.units.specs.declared.Refusal.TheVariants.{NoChain, TooLate}
 use Rattle.plan.specs.Tables.{IsPlan, plan_of}
 use Rattle.service.specs.Service.{Service, service_of, unused}
 use Rattle.timing.specs.Chain.{Allowed}
-use Rattle.walk.specs.Walk.{GoodAsk}
+use Rattle.units.specs.Asks.{GoodAsk}
 use Rattle.walk.specs.declared.figures.Figures.{Figures}
 use Rattle.search.specs.Route.{IsBest, RoutesPlan, no_chain, too_late, best, Routes, short_chain, no_plan, bad_ask, same_node, routed}
 use Rattle.search.specs.declared.answer.Routed.{Routed}

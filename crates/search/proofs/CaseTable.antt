@@ -23,7 +23,8 @@ use Rattle.plan.proofs.Verdicts.{tells_le, both, restated, true_holds}
 use Rattle.service.specs.Service.{Service, volume, lefts_from, service_of, unused}
 use Rattle.service.proofs.ServiceLaws.{service_sound}
 use Rattle.timing.specs.Hop.{is_barred}
-use Rattle.walk.specs.Model.{good_ask, limit_before, room_of, figures_of}
+use Rattle.units.specs.Model.{good_ask}
+use Rattle.walk.specs.Model.{limit_before, room_of, figures_of}
 use Rattle.timing.specs.Model.{step_over}
 use Rattle.walk.proofs.WalkCode.{good_ask_tells}
 use Rattle.network.specs.Model.{delivery, chosen}

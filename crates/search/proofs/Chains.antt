@@ -16,7 +16,7 @@ use Rattle.units.specs.declared.Millis.{Millis}
 use Rattle.timing.specs.Chain.{Carries, stays, hops, Allowed}
 
 use Rattle.timing.specs.Model.{delivery_of}
-use Rattle.walk.specs.Walk.{GoodAsk}
+use Rattle.units.specs.Asks.{GoodAsk}
 use Rattle.service.proofs.Bounded.{contact_good}
 use Rattle.timing.proofs.ChainLaws.{carry_complete, allowed_delivery}
 use Rattle.network.specs.Best.{Reaches}

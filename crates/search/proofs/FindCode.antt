@@ -16,7 +16,7 @@ use Rattle.units.specs.declared.Ask.{Ask}
 use Rattle.units.specs.declared.Refusal.TheVariants.{NoChain, TooLate}
 use Rattle.units.specs.Limits.{last_time, most_light, most_nodes, most_chain}
 use Rattle.service.specs.Service.{Service}
-use Rattle.walk.specs.Walk.{GoodAsk}
+use Rattle.units.specs.Asks.{GoodAsk}
 use Rattle.network.specs.Model.{earliest, delivery, fewest}
 use Rattle.network.specs.Network.{When, at, never, Network}
 use Rattle.network.proofs.Theorems.{fewest_is, fewest_length}

@@ -20,7 +20,7 @@ use Rattle.service.specs.Service.{Service, Sound, InPlan}
 use Rattle.timing.specs.Chain.{Allowed}
 use Rattle.walk.specs.declared.figures.Figures.{Figures}
 use Rattle.walk.specs.Model.{figures_of}
-use Rattle.walk.specs.Walk.{GoodAsk}
+use Rattle.units.specs.Asks.{GoodAsk}
 use Rattle.walk.proofs.LastCallCode.{carries_named}
 use Rattle.network.specs.Model.{delivery, chosen}
 use Rattle.network.specs.Network.{When, at, never}

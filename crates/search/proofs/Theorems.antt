@@ -26,12 +26,13 @@ use Rattle.plan.specs.Verdict.{Verdict, holds, fails}
 use Rattle.plan.proofs.Verdicts.{tells_lt}
 use Rattle.service.specs.Service.{Service, Sound, unused}
 use Rattle.walk.specs.declared.figures.Figures.{Figures}
-use Rattle.walk.specs.declared.figures.Walked.TheVariants.{Carried}
+use Rattle.std.specs.Prelude.{Ok, Err}
 use Rattle.service.proofs.ServiceLaws.{service_sound}
 use Rattle.timing.specs.Chain.{Allowed}
 use Rattle.walk.specs.Figures.{HasFigures}
 use Rattle.walk.specs.Model.{figures_of}
-use Rattle.walk.specs.Walk.{GoodAsk, WalksPlan, carried, Walks, walked}
+use Rattle.units.specs.Asks.{GoodAsk}
+use Rattle.walk.specs.Walk.{WalksPlan, carried, Walks, walked}
 use Rattle.timing.proofs.ChainLaws.{allowed_delivery}
 use Rattle.walk.proofs.Theorems.{figures_unique, walk_model_walks}
 use Rattle.walk.proofs.WalkCode.{walk_carries}
@@ -39,8 +40,7 @@ use Rattle.network.specs.Best.{LowerBack}
 use Rattle.network.specs.Model.{delivery}
 use Rattle.network.specs.Network.{When, at, never}
 use Rattle.network.proofs.Theorems.{chosen_best, never_unreached}
-use Rattle.search_layers.specs.Bridge.{network_of}
-use Rattle.search_layers.specs.Bridge.{goal}
+use Rattle.search_layers.specs.Bridge.{network_of, goal}
 use Rattle.search_choice.specs.Model.{chain_of}
 use Rattle.search.specs.Model.{pick_found, found_of, find_model, answer_of, chain_after, route_model, route_after}
 use Rattle.search.specs.Route.{IsBest, RoutesPlan, no_chain, too_late, best, Routes, short_chain, no_plan, bad_ask, same_node, routed}
@@ -80,7 +80,7 @@ module _ {p : Service} {ask : Ask} {before : List ℕ} {f : Figures} {n : ℕ} {
   pub route_short : Sound p → GoodAsk ask → (ask.source.0 ≡ ask.destination.0 → ⊥) → RoutesPlan p ask before (Best f n) after → n ≤ most_chain
   route_short valid good differ h = omega (arith, is_best_short p valid ask good differ (returned h).is_best, (returned h).count)
 
-  pub route_walks : RoutesPlan p ask before (Best f n) after → WalksPlan p ask (take n after) (Carried f)
+  pub route_walks : RoutesPlan p ask before (Best f n) after → WalksPlan p ask (take n after) (Ok f)
   route_walks h = carried (returned h).figures
 
 module _ {p : Service} {ask : Ask} {before : List ℕ} where
@@ -143,7 +143,7 @@ module _ {contacts : List ℕ} {m : ℕ} {ranges : List ℕ} {n : ℕ} {ask : As
   routes_determined (routed l p g d r) (routed l' p' g' d' r') = routes_plan_determined r r'
 
   pub routes_walks : {f : Figures} {k : ℕ} {after : List ℕ} → Routes contacts m ranges n ask before (Best f k) after
-      → Walks contacts m ranges n ask (take k after) (Carried f)
+      → Walks contacts m ranges n ask (take k after) (Ok f)
   routes_walks (routed l p g d r) = walked p g d (route_walks r)
 
   pub routes_short : {f : Figures} {k : ℕ} {after : List ℕ} → Routes contacts m ranges n ask before (Best f k) after → k ≤ most_chain
@@ -157,7 +157,7 @@ module _ (p : Service) (ask : Ask) (before : List ℕ) (valid : Sound p) (good :
       let carries = walk_carries p ask chain (record { 0 = r }) (figures_of p ask chain r) delivered h refl in
       told (rw (← carries) at (walk_model_walks p ask chain valid good differ))
     where
-      told : {f : Figures} → WalksPlan p ask chain (Carried f) → HasFigures p ask chain f
+      told : {f : Figures} → WalksPlan p ask chain (Ok f) → HasFigures p ask chain f
       told (carried h) = h
 
   chosen_is_best : (r : ℕ) → delivery (network_of p ask) (goal ask) ≡ at r → IsBest p ask (chain_of p ask r) r

@@ -9,7 +9,7 @@ use Rattle.service.specs.Service.{Service, service_of, unused}
 use Rattle.walk.specs.declared.figures.Figures.{Figures}
 use Rattle.timing.specs.Chain.{Allowed}
 use Rattle.walk.specs.Figures.{HasFigures}
-use Rattle.walk.specs.Walk.{GoodAsk}
+use Rattle.units.specs.Asks.{GoodAsk}
 use Rattle.network.specs.Best.{LowerBack}
 use Rattle.search.specs.declared.answer.Routed.{Routed}
 use Rattle.search.specs.declared.answer.Routed.TheVariants.{Best, Refused}

@@ -4,7 +4,7 @@
 ghost use Rattle.std.specs.Prelude.{◌≡◌, ◌≤◌, length};
 ghost use Rattle.units.specs.Limits.{most_chain};
 ghost use Rattle.service.specs.Tables.{served, IsService};
-ghost use Rattle.walk.specs.Walk.{GoodAsk};
+ghost use Rattle.units.specs.Asks.{GoodAsk};
 ghost use Rattle.search.specs.Model.{find_model, route_after};
 ghost use Rattle.search_layers.specs.Words.{blank_words};
 

@@ -4,7 +4,7 @@ ghost use Rattle.units.specs.Limits.{most_contacts, most_chain};
 ghost use Rattle.plan.specs.Tables.{IsPlan, plan_of};
 ghost use Rattle.service.specs.Service.{service_of, unused};
 ghost use Rattle.service.specs.Tables.{served, IsService};
-ghost use Rattle.walk.specs.Walk.{GoodAsk};
+ghost use Rattle.units.specs.Asks.{GoodAsk};
 ghost use Rattle.search.specs.Model.{find_model, route_model, route_after, Holds};
 ghost use Rattle.search.specs.Route.{Routes};
 

@@ -5,7 +5,7 @@ ghost use Rattle.units.specs.Limits.{last_time, most_light, most_nodes, IsNode};
 ghost use Rattle.plan.specs.Plan.{Each};
 ghost use Rattle.service.specs.Service.{InPlan};
 ghost use Rattle.service.specs.Tables.{served, IsService};
-ghost use Rattle.walk.specs.Walk.{GoodAsk};
+ghost use Rattle.units.specs.Asks.{GoodAsk};
 ghost use Rattle.network.specs.Model.{layer, delivery, fewest, leads, lowest};
 ghost use Rattle.network.specs.Network.{at};
 ghost use Rattle.search_layers.specs.Bridge.{network_of, goal};

@@ -20,7 +20,7 @@ use Rattle.timing.specs.Hop.{is_barred}
 use Rattle.timing.specs.Model.{over_contact}
 use Rattle.service.proofs.Bounded.{contact_good, light_good}
 use Rattle.timing.proofs.HopLaws.{hop_bounded}
-use Rattle.walk.specs.Walk.{GoodAsk}
+use Rattle.units.specs.Asks.{GoodAsk}
 use Rattle.network.specs.Model.{behind}
 use Rattle.network.specs.Network.{When, at, never, NotLater, both, last}
 use Rattle.network.proofs.Layers.{behind_after}

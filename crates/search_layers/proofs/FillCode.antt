@@ -19,7 +19,7 @@ use Rattle.plan.specs.Plan.{Each}
 use Rattle.service.specs.Service.{Service, blank}
 use Rattle.timing.proofs.ChainCode.{length_served}
 use Rattle.service.specs.Tables.{served}
-use Rattle.walk.specs.Walk.{GoodAsk}
+use Rattle.units.specs.Asks.{GoodAsk}
 use Rattle.network.specs.Model.{behind, relaxed, layer}
 use Rattle.network.specs.Network.{When, never, last, Network, Laws}
 use Rattle.network.proofs.Relaxed.{relaxed_again}

@@ -22,7 +22,7 @@ use Rattle.plan_lists.specs.Model.{most_rows}
 use Rattle.service.specs.Service.{Service, InPlan}
 use Rattle.service.specs.Tables.{served, IsService}
 use Rattle.timing.proofs.ChainCode.{length_served, contact_lent, named_in_plan, named_good}
-use Rattle.walk.specs.Walk.{GoodAsk}
+use Rattle.units.specs.Asks.{GoodAsk}
 use Rattle.network.specs.Model.{relax}
 use Rattle.network.specs.Network.{IsContact, Laws}
 use Rattle.search_layers.specs.Bridge.{network_of}

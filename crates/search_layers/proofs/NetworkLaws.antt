@@ -21,7 +21,7 @@ use Rattle.plan.specs.declared.rows.Contact.{Contact}
 use Rattle.service.specs.Service.{Service, Sound, contact_of, light_in, left_in, InPlan}
 use Rattle.timing.specs.Hop.{hopped, is_barred}
 use Rattle.timing.specs.Model.{goes_on, over_contact, step_over, back_over}
-use Rattle.walk.specs.Walk.{GoodAsk}
+use Rattle.units.specs.Asks.{GoodAsk}
 use Rattle.service.proofs.Bounded.{contact_good}
 use Rattle.timing.proofs.HopLaws.{Hops, over, hop_told, hop_sent, hop_after, hop_sooner, back_enough, back_needed}
 use Rattle.network.specs.Model.{behind}

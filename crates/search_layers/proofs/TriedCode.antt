@@ -18,7 +18,7 @@ use Rattle.units.specs.Limits.{most_nodes}
 use Rattle.plan.specs.Plan.{Each}
 use Rattle.service.specs.Service.{Service}
 use Rattle.service.specs.Tables.{served, IsService}
-use Rattle.walk.specs.Walk.{GoodAsk}
+use Rattle.units.specs.Asks.{GoodAsk}
 use Rattle.network.specs.Model.{behind, relax, relaxed}
 use Rattle.network.specs.Network.{When, never, NotLater, Network, IsContact, Laws}
 use Rattle.network.proofs.AnyOrder.{relax_no_earlier, tried_all}

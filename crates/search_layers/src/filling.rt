@@ -5,7 +5,7 @@ ghost use Rattle.units.specs.Limits.{most_nodes};
 ghost use Rattle.plan.specs.Plan.{Each};
 ghost use Rattle.plan_lists.specs.Model.{most_rows};
 ghost use Rattle.service.specs.Tables.{served, IsService};
-ghost use Rattle.walk.specs.Walk.{GoodAsk};
+ghost use Rattle.units.specs.Asks.{GoodAsk};
 ghost use Rattle.network.specs.Model.{relaxed};
 ghost use Rattle.search_layers.specs.Bridge.{network_of};
 ghost use Rattle.search_layers.specs.Words.{TimeWord, layer_of, Layered, Listed, Older, blank_words, Filled};

@@ -7,7 +7,7 @@ ghost use Rattle.plan.specs.Plan.{Each, GoodContact};
 ghost use Rattle.service.specs.Service.{InPlan};
 ghost use Rattle.service.specs.Tables.{served, IsService};
 ghost use Rattle.timing.specs.Hop.{is_barred};
-ghost use Rattle.walk.specs.Walk.{GoodAsk};
+ghost use Rattle.units.specs.Asks.{GoodAsk};
 ghost use Rattle.network.specs.Model.{behind, relax, relaxed};
 ghost use Rattle.network.specs.Network.{never, NotLater};
 ghost use Rattle.search_layers.specs.Bridge.{network_of};

@@ -51,9 +51,16 @@ fn light_of(word: u32) -> Option<Millis>
 }
 
 impl<'a> ServedPlan<'a> {
-    ghost use Rattle.std.specs.Prelude.{◌≤◌};
+    ghost use Rattle.std.specs.Prelude.{◌&&◌, leb, length};
     ghost use Rattle.service.specs.Service.{InPlan, contact_of, light_in, left_in};
     ghost use Rattle.service.specs.Held.{service_in};
+
+    // Whether the number names a contact of the plan.
+    pub fn has(&self, no: ContactNo) -> bool
+        ensures { result ≡ (leb 1 no.0 && leb no.0 (length (service_in self.now).contacts)) }
+    {
+        (1 <= no.0) & (no.0 <= self.contact_count as u64)
+    }
 
     // The contact of that number.
     pub fn contact(&self, no: ContactNo) -> Contact

@@ -1,10 +1,6 @@
 -- What the loop along a chain knows of the model.
---     contact_lent, light_lent, left_lent      what the lent tables hold for a contact of the plan
---     named_in_plan, named_at_most, named_good      a number from 1 to the count names a contact of the plan, and a good one
---     goes_not_least, goes_not_most, goes_by        whether it goes on, by the tests in their order
 --     goes_in_plan, steps_in_plan      a number that goes on names a contact of the plan
 --     step_goes, step_stays            one step, by whether the contact goes on
---     carry_lent                       the step on along a chain, where the contact was read from its row
 --     step_bounded      behind a contact of a valid plan the file is ready at a time that has room in a word
 --     carry_goes, carry_stops, carry_ends, carry_misses      the chain from place i on, by what the contact there does
 -- Assumes nothing.
@@ -33,69 +29,6 @@ use Rattle.timing.specs.Hop.{hopped, is_barred}
 use Rattle.timing.specs.Model.{goes_on, over_contact, step_over, carry}
 use Rattle.service.proofs.Bounded.{light_good, contact_good}
 use Rattle.timing.proofs.HopLaws.{hop_bounded}
-
-module _ (contacts : List ℕ) (m : ℕ) (lights lefts : List ℕ) where
-  pub length_served : length (served contacts m lights lefts).contacts ≡ m
-  unfolding served
-  length_served = length_rows (contact_at contacts) 0 m
-
-  module _ (c : ℕ) (i : InPlan (served contacts m lights lefts) c) where
-    named_below : c - 1 < m
-    named_below = omega (arith, i.least, i.most, length_served)
-
-    pub contact_lent : contact_of (served contacts m lights lefts) c ≡ contact_at contacts (c - 1)
-    unfolding served
-    contact_lent = get_d_rows (contact_at contacts) 0 m (c - 1) blank named_below ∙ ap (contact_at contacts) (zero-add (c - 1))
-
-    pub light_lent : light_in (served contacts m lights lefts) c ≡ light_at lights (c - 1)
-    unfolding served
-    light_lent = get_d_rows (light_at lights) 0 m (c - 1) None named_below ∙ ap (light_at lights) (zero-add (c - 1))
-
-    pub left_lent : left_in (served contacts m lights lefts) c ≡ left_at lefts (c - 1)
-    unfolding served
-    left_lent = get_d_rows (left_at lefts) 0 m (c - 1) 0 named_below ∙ ap (left_at lefts) (zero-add (c - 1))
-
-module _ (contacts : List ℕ) (m : ℕ) (lights lefts : List ℕ) (c : ℕ) where
-  pub named_in_plan : 1 ≤ c → c ≤ m → InPlan (served contacts m lights lefts) c
-  named_in_plan least most = record { least = least; most = subst (λ (k : ℕ). c ≤ k) (sym (length_served contacts m lights lefts)) most }
-
-  pub named_at_most : InPlan (served contacts m lights lefts) c → c ≤ m
-  named_at_most i = subst (λ (k : ℕ). c ≤ k) (length_served contacts m lights lefts) i.most
-
-  pub named_good : IsService contacts m lights lefts → InPlan (served contacts m lights lefts) c → GoodContact (contact_at contacts (c - 1))
-  named_good plan i = subst GoodContact (contact_lent contacts m lights lefts c i) (contact_good (served contacts m lights lefts) plan.sound c i)
-
-  pub light_named : IsService contacts m lights lefts → InPlan (served contacts m lights lefts) c → LightGood (light_at lights (c - 1))
-  light_named plan i = subst LightGood (light_lent contacts m lights lefts c i) (light_good (served contacts m lights lefts) plan.sound c i)
-
-  -- a hop over the contact that stands in the row is a hop over the contact of the plan
-  pub over_lent : InPlan (served contacts m lights lefts) c → (ask : Ask) (t : ℕ) (x : Contact) (l : Option Millis) (left : ℕ) (a : Option Millis)
-      → x ≡ contact_at contacts (c - 1) → l ≡ light_at lights (c - 1) → left ≡ left_at lefts (c - 1) → a ≡ hopped l left x ask.size t
-      → a ≡ over_contact (served contacts m lights lefts) ask c t
-  unfolding over_contact
-  over_lent i ask t x l left a ex el ef ea =
-      ea
-      ∙ ap (λ (y : Option Millis). hopped y left x ask.size t) (el ∙ sym (light_lent contacts m lights lefts c i))
-      ∙ ap (λ (y : ℕ). hopped (light_in (served contacts m lights lefts) c) y x ask.size t) (ef ∙ sym (left_lent contacts m lights lefts c i))
-      ∙ ap (λ (y : Contact). hopped (light_in (served contacts m lights lefts) c) (left_in (served contacts m lights lefts) c) y ask.size t) (ex ∙ sym (contact_lent contacts m lights lefts c i))
-
-  module _ (ask : Ask) (u : ℕ) where
-    pub goes_not_least : c < 1 → false ≡ goes_on (served contacts m lights lefts) ask u c
-    unfolding goes_on
-    goes_not_least h = rw (lt-leb 1 c h)
-
-    pub goes_not_most : 1 ≤ c → m < c → false ≡ goes_on (served contacts m lights lefts) ask u c
-    unfolding goes_on
-    goes_not_most least h = rw (le-leb 1 c least, length_served contacts m lights lefts, lt-leb c m h)
-
-    pub goes_by : 1 ≤ c → c ≤ m → (x : Contact) (b : Bool) → x ≡ contact_at contacts (c - 1) → b ≡ is_barred ask x
-        → eqb x.from.0 u && not b ≡ goes_on (served contacts m lights lefts) ask u c
-    unfolding goes_on
-    goes_by least most x b ex eb =
-        let same : x ≡ contact_of (served contacts m lights lefts) c = ex ∙ sym (contact_lent contacts m lights lefts c (named_in_plan least most)) in
-        let reads : eqb x.from.0 u && not (is_barred ask x) ≡ eqb (contact_of (served contacts m lights lefts) c).from.0 u && not (is_barred ask (contact_of (served contacts m lights lefts) c)) =
-        ap (λ (y : Contact). eqb y.from.0 u && not (is_barred ask y)) same in
-        rw (le-leb 1 c least, length_served contacts m lights lefts, le-leb c m most, eb) reads
 
 -- the parts of a test that passes
 both_pass : (a b : Bool) → a && b ≡ true → (a ≡ true) × (b ≡ true)
@@ -183,15 +116,3 @@ module _ (p : Service) (ask : Ask) (u t : ℕ) (chain : List ℕ) (i : ℕ) wher
   pub carry_misses : length chain ≤ i → (u ≡ ask.destination.0 → ⊥) → carry p ask u t (drop i chain) ≡ None
   unfolding carry
   carry_misses h e = ap (carry p ask u t) (drop_of_length-le chain h) ∙ rw (ne_eqb u ask.destination.0 e)
-
--- the step on along a chain, where the contact was read from its row
-pub carry_lent : (contacts : List ℕ) (m : ℕ) (lights lefts : List ℕ) (ask : Ask) (u t : ℕ) (chain : List ℕ) (i : ℕ) (s : Millis) (x : Contact)
-    → i < length chain
-    → step_over (served contacts m lights lefts) ask u t (get_or chain i 0) ≡ Some s
-    → x ≡ contact_at contacts (get_or chain i 0 - 1)
-    → carry (served contacts m lights lefts) ask u t (drop i chain) ≡ carry (served contacts m lights lefts) ask x.to.0 s.0 (drop (i + 1) chain)
-carry_lent contacts m lights lefts ask u t chain i s x h e ex =
-    let p : Service = served contacts m lights lefts in
-    carry_goes p ask u t chain i s h e
-    ∙ ap (λ (y : Contact). carry p ask y.to.0 s.0 (drop (i + 1) chain))
-    (contact_lent contacts m lights lefts (get_or chain i 0) (steps_in_plan p ask u t (get_or chain i 0) s e) ∙ sym ex)

@@ -6,4 +6,4 @@ mod chain;
 mod hop;
 
 pub use chain::{delivery, is_barred, over, step};
-pub use hop::{back, consumption, later, sending};
+pub use hop::{back, consumption, hop_over, sending};

@@ -10,4 +10,4 @@ use Rattle.units.specs.Asks.{GoodAsk}
 pub data ChecksAsk (ask : Ask) : Result CheckedAsk Refusal → Type 0 where
   bad_ask : (GoodAsk ask → ⊥) → ChecksAsk ask (Err AskValue)
   same_node : GoodAsk ask → ask.source.0 ≡ ask.destination.0 → ChecksAsk ask (Err SameNode)
-  checked : {c : CheckedAsk} → c.ask ≡ ask → ChecksAsk ask (Ok c)
+  checked : {c : CheckedAsk} → c.asked ≡ ask → ChecksAsk ask (Ok c)

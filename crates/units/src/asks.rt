@@ -21,9 +21,9 @@ pub fn is_good_ask(ask: Ask) -> bool
 // An ask with every value in its range, between two different nodes.
 #[derive(Clone, Copy)]
 pub struct CheckedAsk {
-    pub ask: Ask,
-    pub ghost good: { GoodAsk ask },
-    pub ghost differ: { ask.source.0 ≡ ask.destination.0 → ⊥ },
+    pub asked: Ask,
+    pub ghost good: { GoodAsk asked },
+    pub ghost differ: { asked.source.0 ≡ asked.destination.0 → ⊥ },
 }
 
 impl CheckedAsk {
@@ -39,6 +39,6 @@ impl CheckedAsk {
         if ask.source == ask.destination {
             return Err(Refusal::SameNode);
         }
-        Ok(CheckedAsk { ask })
+        Ok(CheckedAsk { asked: ask })
     }
 }

@@ -22,7 +22,7 @@ use Rattle.timing.specs.Chain.{Allowed, InTime, ask_of}
 use Rattle.walk.specs.Figures.{IsRoom}
 use Rattle.timing.specs.Model.{delivery_of}
 use Rattle.walk.specs.Model.{is_before, carries_size, room_from, size_bits, room_of}
-use Rattle.walk.specs.Walk.{GoodAsk}
+use Rattle.units.specs.Asks.{GoodAsk}
 use Rattle.timing.proofs.ChainLaws.{carries_smaller, allowed_delivery, allowed_never, allowed_determined}
 
 -- the delivery tells whether the chain is in time

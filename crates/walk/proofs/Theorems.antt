@@ -21,16 +21,16 @@ use Rattle.units.specs.Limits.{last_time, most_size}
 use Rattle.plan.specs.Verdict.{Verdict, holds, fails}
 use Rattle.plan.proofs.Verdicts.{tells_lt}
 use Rattle.service.specs.Service.{Service, Sound}
-use Rattle.std.specs.Prelude.{Option, Some, None}
+use Rattle.std.specs.Prelude.{Option, Some, None, Result, Ok, Err}
 use Rattle.units.specs.declared.Millis.{Millis}
 use Rattle.walk.specs.declared.figures.Figures.{Figures}
-use Rattle.walk.specs.declared.figures.Walked.{Walked}
-use Rattle.walk.specs.declared.figures.Walked.TheVariants.{Carried, Refused}
+use Rattle.units.specs.declared.Refusal.{Refusal}
 use Rattle.timing.specs.Chain.{Allowed, InTime}
 use Rattle.walk.specs.Figures.{IsLastCall, IsRoom, HasFigures}
 use Rattle.timing.specs.Model.{delivery_of}
-use Rattle.walk.specs.Model.{figures_of, pick_walked, walked_of, walk_model}
-use Rattle.walk.specs.Walk.{GoodAsk, WalksPlan, turned_down, too_late, carried, Walks, no_plan, bad_ask, same_node, walked}
+use Rattle.walk.specs.Model.{figures_of, cond, walked_of, walk_model}
+use Rattle.units.specs.Asks.{GoodAsk}
+use Rattle.walk.specs.Walk.{WalksPlan, turned_down, too_late, carried, Walks, no_plan, bad_ask, same_node, walked}
 use Rattle.timing.proofs.ChainLaws.{carries_after, allowed_delivery, allowed_determined}
 use Rattle.walk_cause.proofs.CauseLaws.{cause_tells, turned_determined, allowed_no_cause}
 use Rattle.walk.proofs.LastCallLaws.{last_call_is}
@@ -51,8 +51,8 @@ module _ {p : Service} {ask : Ask} {chain : List ℕ} where
       let room = room_unique a.room b.room in
       λ i. record { delivery = record { 0 = delivery i }; opens = record { 0 = opens i }; last_call = record { 0 = last i }; room = room i }
 
-  pub walks_plan_determined : {a b : Walked} → WalksPlan p ask chain a → WalksPlan p ask chain b → a ≡ b
-  walks_plan_determined (turned_down d) (turned_down d') = ap Refused (turned_determined d d')
+  pub walks_plan_determined : {a b : Result Figures Refusal} → WalksPlan p ask chain a → WalksPlan p ask chain b → a ≡ b
+  walks_plan_determined (turned_down d) (turned_down d') = ap Err (turned_determined d d')
   walks_plan_determined (turned_down d) (too_late a l) = absurd (allowed_no_cause a d)
   walks_plan_determined (turned_down d) (carried f) = absurd (allowed_no_cause f.allowed d)
   walks_plan_determined (too_late a l) (turned_down d) = absurd (allowed_no_cause a d)
@@ -60,12 +60,12 @@ module _ {p : Service} {ask : Ask} {chain : List ℕ} where
   walks_plan_determined (too_late a l) (carried f) = absurd (omega (arith, allowed_determined p ask a f.allowed, f.in_time))
   walks_plan_determined (carried f) (turned_down d) = absurd (allowed_no_cause f.allowed d)
   walks_plan_determined (carried f) (too_late a l) = absurd (omega (arith, allowed_determined p ask a f.allowed, f.in_time))
-  walks_plan_determined (carried f) (carried g) = ap Carried (figures_unique f g)
+  walks_plan_determined (carried f) (carried g) = ap Ok (figures_unique f g)
 
   pub deadline_late : Allowed p ask chain ask.deadline.0 → InTime p ask chain → ⊥
   deadline_late a i = omega (arith, allowed_determined p ask a i.allowed, i.early)
 
-  pub walks_at_deadline : {w : Walked} → WalksPlan p ask chain w → Allowed p ask chain ask.deadline.0 → w ≡ Refused TooLate
+  pub walks_at_deadline : {w : Result Figures Refusal} → WalksPlan p ask chain w → Allowed p ask chain ask.deadline.0 → w ≡ Err TooLate
   walks_at_deadline (turned_down d) a = absurd (allowed_no_cause a d)
   walks_at_deadline (too_late b l) a = refl
   walks_at_deadline (carried f) a = absurd (omega (arith, allowed_determined p ask a f.allowed, f.in_time))
@@ -83,7 +83,7 @@ module _ {p : Service} {ask : Ask} {chain : List ℕ} where
   )
 
 module _ {contacts : List ℕ} {m : ℕ} {ranges : List ℕ} {n : ℕ} {ask : Ask} {chain : List ℕ} where
-  pub walks_determined : {a b : Walked} → Walks contacts m ranges n ask chain a → Walks contacts m ranges n ask chain b → a ≡ b
+  pub walks_determined : {a b : Result Figures Refusal} → Walks contacts m ranges n ask chain a → Walks contacts m ranges n ask chain b → a ≡ b
   walks_determined (no_plan h) (no_plan h') = refl
   walks_determined (no_plan h) (bad_ask p g) = absurd (h p)
   walks_determined (no_plan h) (same_node p g s) = absurd (h p)
@@ -113,7 +113,7 @@ module _ (p : Service) (ask : Ask) (chain : List ℕ) (valid : Sound p) (good : 
   }
 
   walked_in_time : {r : ℕ} (x : Bool) → Allowed p ask chain r → Verdict (r < ask.deadline.0) x
-      → WalksPlan p ask chain (pick_walked x (Carried (figures_of p ask chain r)) (Refused TooLate))
+      → WalksPlan p ask chain (cond x (Ok (figures_of p ask chain r)) (Err TooLate))
   walked_in_time _ a (holds h) = carried (has_figures a h)
   walked_in_time _ a (fails h) = too_late a (omega arith)
 

@@ -20,17 +20,16 @@ use Rattle.plan.specs.Tables.{contact_at}
 use Rattle.plan.specs.Verdict.{Verdict}
 use Rattle.plan.proofs.Tests.{is_node_tells}
 use Rattle.plan.proofs.Verdicts.{tells_le, both, restated}
-use Rattle.std.specs.Prelude.{Some, None}
+use Rattle.std.specs.Prelude.{Some, None, Result, Ok, Err}
 use Rattle.walk.specs.declared.figures.Figures.{Figures}
-use Rattle.walk.specs.declared.figures.Walked.{Walked}
-use Rattle.walk.specs.declared.figures.Walked.TheVariants.{Carried, Refused}
 use Rattle.service.specs.Service.{Service, contact_of, InPlan}
 use Rattle.service.specs.Tables.{served}
 use Rattle.timing.specs.Hop.{start_on}
-use Rattle.walk.specs.Model.{good_ask, limit_before, room_of, figures_of, walk_model}
+use Rattle.units.specs.Model.{good_ask}
+use Rattle.walk.specs.Model.{limit_before, room_of, figures_of, walk_model}
 use Rattle.timing.specs.Model.{delivery_of}
 use Rattle.walk_cause.specs.Model.{cause_of}
-use Rattle.walk.specs.Walk.{GoodAsk}
+use Rattle.units.specs.Asks.{GoodAsk}
 use Rattle.timing.proofs.ChainCode.{contact_lent}
 
 pub good_ask_tells : (ask : Ask) → Verdict (GoodAsk ask) (good_ask ask)
@@ -62,19 +61,19 @@ module _ (p : Service) (ask : Ask) (chain : List ℕ) where
   unfolding figures_of
   figures_by d o l n eo el en = λ i. record { delivery = d; opens = record { 0 = eo i }; last_call = record { 0 = el i }; room = en i }
 
-  pub walk_never : (why : Refusal) → delivery_of p ask chain ≡ None → why ≡ cause_of p ask chain → Refused why ≡ walk_model p ask chain
+  pub walk_never : (why : Refusal) → delivery_of p ask chain ≡ None → why ≡ cause_of p ask chain → Err why ≡ walk_model p ask chain
   unfolding walk_model
   walk_never why e w = rw (e, w)
 
-  pub walk_late : (r : Millis) → delivery_of p ask chain ≡ Some r → ask.deadline.0 ≤ r.0 → Refused TooLate ≡ walk_model p ask chain
+  pub walk_late : (r : Millis) → delivery_of p ask chain ≡ Some r → ask.deadline.0 ≤ r.0 → Err TooLate ≡ walk_model p ask chain
   unfolding walk_model
   walk_late r e h = rw (e, le-ltb r.0 ask.deadline.0 h)
 
   pub walk_carries : (r : Millis) (f : Figures) → delivery_of p ask chain ≡ Some r → r.0 < ask.deadline.0 → f ≡ figures_of p ask chain r.0
-      → Carried f ≡ walk_model p ask chain
+      → Ok f ≡ walk_model p ask chain
   unfolding walk_model
   walk_carries r f e h ef = rw (e, lt-ltb r.0 ask.deadline.0 h, ef)
 
 -- the answer over a service that is the plan's
-pub walk_serves : (s p : Service) (ask : Ask) (chain : List ℕ) (w : Walked) → s ≡ p → w ≡ walk_model s ask chain → w ≡ walk_model p ask chain
+pub walk_serves : (s p : Service) (ask : Ask) (chain : List ℕ) (w : Result Figures Refusal) → s ≡ p → w ≡ walk_model s ask chain → w ≡ walk_model p ask chain
 walk_serves s p ask chain w e ew = ew ∙ ap (λ (q : Service). walk_model q ask chain) e

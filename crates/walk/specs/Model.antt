@@ -1,10 +1,9 @@
 -- The executable model of a walk: what the code computes, step by step. A reader of the promises may skip it.
---     good_ask       the test of an ask's values
 --     limit_before   last call as a limit: ready below it, the file is ready behind the chain below the limit given
 --     room_from      the greatest size carried, found bit by bit
 --     walk_model     the answer
 -- Assumes nothing.
-use Rattle.std.specs.Prelude.{Bool, true, false, ◌&&◌, cond, List, [], ◌∷◌, ℕ, zero, suc, ◌+◌, ◌-◌, ◌^◌, leb, ltb, get_or, Option, Some, None}
+use Rattle.std.specs.Prelude.{Bool, true, false, ◌&&◌, cond, List, [], ◌∷◌, ℕ, zero, suc, ◌+◌, ◌-◌, ◌^◌, leb, ltb, get_or, Option, Some, None, Result, Ok, Err}
 use Rattle.units.specs.Limits.{last_time, most_size}
 use Rattle.units.specs.Model.{is_node}
 use Rattle.units.specs.declared.Ask.{Ask}
@@ -16,14 +15,7 @@ use Rattle.timing.specs.Hop.{start_on}
 use Rattle.timing.specs.Model.{back_over, delivery_of}
 use Rattle.walk_cause.specs.Model.{cause_of}
 use Rattle.walk.specs.declared.figures.Figures.{Figures}
-use Rattle.walk.specs.declared.figures.Walked.{Walked}
-use Rattle.walk.specs.declared.figures.Walked.TheVariants.{Carried, Refused}
-
--- every value of the ask in its range
-abbrev pub good_ask : Ask → Bool
-good_ask ask =
-    is_node ask.source && is_node ask.destination && leb ask.time.0 last_time && leb 1 ask.size && leb ask.size most_size
-    && leb ask.deadline.0 last_time
+use Rattle.units.specs.declared.Refusal.{Refusal}
 
 -- the step back over the contact of a number, for a file of that size
 abbrev pub limit_over : Service → ℕ → ℕ → ℕ → ℕ
@@ -71,14 +63,10 @@ figures_of p ask chain r = record {
   room = room_of p ask chain;
 }
 
-abbrev pub pick_walked : Bool → Walked → Walked → Walked
-pick_walked true a b = a
-pick_walked false a b = b
-
 -- what a walk answers, from when the chain delivers
-abbrev pub walked_of : Service → Ask → List ℕ → Option Millis → Walked
-walked_of p ask chain (Some r) = pick_walked (ltb r.0 ask.deadline.0) (Carried (figures_of p ask chain r.0)) (Refused TooLate)
-walked_of p ask chain None = Refused (cause_of p ask chain)
+abbrev pub walked_of : Service → Ask → List ℕ → Option Millis → Result Figures Refusal
+walked_of p ask chain (Some r) = cond (ltb r.0 ask.deadline.0) (Ok (figures_of p ask chain r.0)) (Err TooLate)
+walked_of p ask chain None = Err (cause_of p ask chain)
 
-unfoldable pub walk_model : Service → Ask → List ℕ → Walked
+unfoldable pub walk_model : Service → Ask → List ℕ → Result Figures Refusal
 walk_model p ask chain = walked_of p ask chain (delivery_of p ask chain)

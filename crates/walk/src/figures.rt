@@ -1,5 +1,5 @@
 // What is answered of a chain.
-use units::{Millis, Refusal};
+use units::Millis;
 
 // The figures of an allowed chain in time: when the file is delivered, when it starts on the first
 // contact, the latest time from which the same chain still carries it, and the largest file that it
@@ -10,11 +10,4 @@ pub struct Figures {
     pub opens: Millis,
     pub last_call: Millis,
     pub room: u64,
-}
-
-// The answer of `walk`.
-#[derive(Clone, Copy)]
-pub enum Walked {
-    Carried(Figures),
-    Refused(Refusal),
 }

@@ -9,6 +9,6 @@ mod last_call;
 mod room;
 mod walking;
 
-pub use figures::{Figures, Walked};
+pub use figures::Figures;
 pub use last_call::back_over;
-pub use walking::{figures_of, is_good_ask, walk, walk_served};
+pub use walking::{figures_of, walk, walk_served};

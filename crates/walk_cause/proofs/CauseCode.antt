@@ -22,7 +22,7 @@ use Rattle.units.specs.declared.Ask.{Ask}
 use Rattle.units.specs.declared.Millis.{Millis}
 use Rattle.units.specs.declared.Refusal.{Refusal}
 use Rattle.units.specs.declared.Refusal.TheVariants.{NoContact, NotJoined, ExcludedNode, NotRanged, NotFitting, EndsElsewhere}
-use Rattle.std.specs.Prelude.{Option, Some, None}
+use Rattle.std.specs.Prelude.{Option, Some, None, Result, Ok, Err}
 use Rattle.plan.specs.declared.rows.Contact.{Contact}
 use Rattle.plan.specs.Tables.{contact_at}
 use Rattle.plan.proofs.Verdicts.{tells_le, both, true_holds}
@@ -33,8 +33,6 @@ use Rattle.timing.specs.Model.{over_contact}
 use Rattle.service.proofs.Bounded.{light_good, contact_good}
 use Rattle.timing.proofs.ChainCode.{length_served, contact_lent, light_lent, named_in_plan}
 use Rattle.timing.proofs.HopLaws.{hop_bounded}
-use Rattle.walk_cause.specs.declared.judging.Judged.{Judged}
-use Rattle.walk_cause.specs.declared.judging.Judged.TheVariants.{Good, Fault}
 use Rattle.walk_cause.specs.Model.{judged_hop, judged_named, judged, cause_from}
 use Rattle.walk_cause.proofs.CauseLaws.{judged_passes}
 
@@ -44,17 +42,17 @@ module _ (contacts : List ℕ) (m : ℕ) (lights lefts : List ℕ) (c : ℕ) whe
       read_light : light_in (served contacts m lights lefts) c ≡ x
       read_light = light_lent contacts m lights lefts c l ∙ sym ex
 
-      pub hop_unranged : x ≡ None → Fault (NotRanged i) ≡ judged_hop (served contacts m lights lefts) ask t i c
+      pub hop_unranged : x ≡ None → Err (NotRanged i) ≡ judged_hop (served contacts m lights lefts) ask t i c
       unfolding judged_hop
       hop_unranged e = rw (read_light, e)
 
       pub hop_unfit : (y : Millis) (a : Option Millis) → x ≡ Some y → a ≡ over_contact (served contacts m lights lefts) ask c t → a ≡ None
-          → Fault (NotFitting i) ≡ judged_hop (served contacts m lights lefts) ask t i c
+          → Err (NotFitting i) ≡ judged_hop (served contacts m lights lefts) ask t i c
       unfolding judged_hop
       hop_unfit y a e ea en = rw (read_light, e, sym ea, en)
 
       pub hop_good : (y s : Millis) (a : Option Millis) → x ≡ Some y → a ≡ over_contact (served contacts m lights lefts) ask c t → a ≡ Some s
-          → Good s ≡ judged_hop (served contacts m lights lefts) ask t i c
+          → Ok s ≡ judged_hop (served contacts m lights lefts) ask t i c
       unfolding judged_hop
       hop_good y s a e ea er = rw (read_light, e, sym ea, er)
 
@@ -65,7 +63,7 @@ module _ (contacts : List ℕ) (m : ℕ) (lights lefts : List ℕ) (c : ℕ) whe
       read_from : (contact_of (served contacts m lights lefts) c).from.0 ≡ x.from.0
       read_from = ap (λ (y : Contact). y.from.0) read_contact
 
-      pub named_apart : (x.from.0 ≡ u → ⊥) → Fault (NotJoined i) ≡ judged_named (served contacts m lights lefts) ask u t i c
+      pub named_apart : (x.from.0 ≡ u → ⊥) → Err (NotJoined i) ≡ judged_named (served contacts m lights lefts) ask u t i c
       unfolding judged_named
       named_apart n = rw (ne_eqb (contact_of (served contacts m lights lefts) c).from.0 u (λ e. n (sym read_from ∙ e)))
 
@@ -76,11 +74,11 @@ module _ (contacts : List ℕ) (m : ℕ) (lights lefts : List ℕ) (c : ℕ) whe
         read_barred : is_barred ask (contact_of (served contacts m lights lefts) c) ≡ b
         read_barred = ap (is_barred ask) read_contact ∙ sym eb
 
-        pub named_barred : b ≡ true → Fault (ExcludedNode i) ≡ judged_named (served contacts m lights lefts) ask u t i c
+        pub named_barred : b ≡ true → Err (ExcludedNode i) ≡ judged_named (served contacts m lights lefts) ask u t i c
         unfolding judged_named
         named_barred e = rw (joined, read_barred, e)
 
-        pub named_hops : b ≡ false → (r : Judged) → r ≡ judged_hop (served contacts m lights lefts) ask t i c
+        pub named_hops : b ≡ false → (r : Result Millis Refusal) → r ≡ judged_hop (served contacts m lights lefts) ask t i c
             → r ≡ judged_named (served contacts m lights lefts) ask u t i c
         unfolding judged_named
         named_hops e r er = rw (joined, read_barred, e) er
@@ -89,20 +87,20 @@ module _ (contacts : List ℕ) (m : ℕ) (lights lefts : List ℕ) (c : ℕ) whe
     pub is_in_plan : b ≡ true → InPlan (served contacts m lights lefts) c
     is_in_plan e = let named = true_holds (both (tells_le 1 c) (tells_le c m)) (sym eb ∙ e) in named_in_plan contacts m lights lefts c named.0 named.1
 
-    pub not_named : (ask : Ask) (u t i : ℕ) → b ≡ false → Fault (NoContact i) ≡ judged (served contacts m lights lefts) ask u t i c
+    pub not_named : (ask : Ask) (u t i : ℕ) → b ≡ false → Err (NoContact i) ≡ judged (served contacts m lights lefts) ask u t i c
     unfolding judged
     not_named ask u t i e = rw (length_served contacts m lights lefts, sym eb, e)
 
-    pub judged_named_lem : (ask : Ask) (u t i : ℕ) → b ≡ true → (r : Judged) → r ≡ judged_named (served contacts m lights lefts) ask u t i c
+    pub judged_named_lem : (ask : Ask) (u t i : ℕ) → b ≡ true → (r : Result Millis Refusal) → r ≡ judged_named (served contacts m lights lefts) ask u t i c
         → r ≡ judged (served contacts m lights lefts) ask u t i c
     unfolding judged
     judged_named_lem ask u t i e r er = rw (length_served contacts m lights lefts, sym eb, e) er
 
 module _ (p : Service) (ask : Ask) (u t : ℕ) where
-  pub judged_in_plan : (i c : ℕ) (s : Millis) → judged p ask u t i c ≡ Good s → InPlan p c
+  pub judged_in_plan : (i c : ℕ) (s : Millis) → judged p ask u t i c ≡ Ok s → InPlan p c
   judged_in_plan i c s e = (judged_passes p ask u t i c s e).in_plan
 
-  pub judged_bounded : Sound p → (i c : ℕ) (s : Millis) → judged p ask u t i c ≡ Good s → s.0 ≤ last_time + most_light
+  pub judged_bounded : Sound p → (i c : ℕ) (s : Millis) → judged p ask u t i c ≡ Ok s → s.0 ≤ last_time + most_light
   judged_bounded v i c s e =
       let g = judged_passes p ask u t i c s e in
       omega (
@@ -115,11 +113,11 @@ module _ (p : Service) (ask : Ask) (u t : ℕ) where
     from_here : i < length chain → cause_from p ask u t i (drop i chain) ≡ cause_from p ask u t i (get_or chain i 0 ∷ drop (i + 1) chain)
     from_here h = rw (add-one, drop-cons chain i 0)
 
-    pub cause_stops : i < length chain → (why : Refusal) → judged p ask u t (i + 1) (get_or chain i 0) ≡ Fault why → cause_from p ask u t i (drop i chain) ≡ why
+    pub cause_stops : i < length chain → (why : Refusal) → judged p ask u t (i + 1) (get_or chain i 0) ≡ Err why → cause_from p ask u t i (drop i chain) ≡ why
     unfolding cause_from
     cause_stops h why e = from_here h ∙ rw e
 
-    pub cause_goes : i < length chain → (s : Millis) → judged p ask u t (i + 1) (get_or chain i 0) ≡ Good s
+    pub cause_goes : i < length chain → (s : Millis) → judged p ask u t (i + 1) (get_or chain i 0) ≡ Ok s
         → cause_from p ask u t i (drop i chain) ≡ cause_from p ask (contact_of p (get_or chain i 0)).to.0 s.0 (i + 1) (drop (i + 1) chain)
     unfolding cause_from
     cause_goes h s e = from_here h ∙ rw e
@@ -131,7 +129,7 @@ module _ (p : Service) (ask : Ask) (u t : ℕ) where
 -- the step on along a chain, where the contact was read from its row
 pub cause_lent : (contacts : List ℕ) (m : ℕ) (lights lefts : List ℕ) (ask : Ask) (u t : ℕ) (chain : List ℕ) (i : ℕ) (s : Millis) (x : Contact)
     → i < length chain
-    → judged (served contacts m lights lefts) ask u t (i + 1) (get_or chain i 0) ≡ Good s
+    → judged (served contacts m lights lefts) ask u t (i + 1) (get_or chain i 0) ≡ Ok s
     → x ≡ contact_at contacts (get_or chain i 0 - 1)
     → cause_from (served contacts m lights lefts) ask u t i (drop i chain) ≡ cause_from (served contacts m lights lefts) ask x.to.0 s.0 (i + 1) (drop (i + 1) chain)
 cause_lent contacts m lights lefts ask u t chain i s x h e ex =

@@ -21,7 +21,7 @@ use Rattle.units.specs.declared.Ask.{Ask}
 use Rattle.units.specs.declared.Millis.{Millis}
 use Rattle.units.specs.declared.Refusal.{Refusal}
 use Rattle.units.specs.declared.Refusal.TheVariants.{NoContact, NotJoined, ExcludedNode, NotRanged, NotFitting, EndsElsewhere}
-use Rattle.std.specs.Prelude.{Option, Some, None}
+use Rattle.std.specs.Prelude.{Option, Some, None, Result, Ok, Err}
 use Rattle.plan.specs.Verdict.{Verdict, holds, fails}
 use Rattle.plan.proofs.Verdicts.{tells_le, tells_lt, tells_eq, both, restated}
 use Rattle.service.specs.Service.{Service, contact_of, light_in, left_in, InPlan}
@@ -30,8 +30,6 @@ use Rattle.timing.specs.Hop.{sent, start_on, hopped, is_barred}
 use Rattle.timing.specs.Model.{goes_on, over_contact, carry, delivery_of}
 use Rattle.timing.proofs.ChainLaws.{carries_determined, carry_never, tells_not, allowed_delivery}
 use Rattle.timing.proofs.HopLaws.{Hops, over, hop_told, hop_made}
-use Rattle.walk_cause.specs.declared.judging.Judged.{Judged}
-use Rattle.walk_cause.specs.declared.judging.Judged.TheVariants.{Good, Fault}
 use Rattle.walk_cause.specs.Cause.{Fits, HasFault, no_contact, not_joined, excluded_node, not_ranged, not_fitting, TurnedDown, at_fault, elsewhere}
 use Rattle.walk_cause.specs.Model.{unless, by_hop, judged_hop, judged_named, judged, cause_by, cause_from, cause_of}
 
@@ -103,9 +101,9 @@ not_false_true true n = refl
 not_false_true false n = absurd (n refl)
 
 -- what judging a contact finds: that it passes, or the lowest of its faults
-data Finds (p : Service) (ask : Ask) (u t i c : ℕ) : Judged → Type 0 where
-  passes : {s : ℕ} → Passes p ask u t c s → Finds p ask u t i c (Good (record { 0 = s }))
-  finds : {why : Refusal} → HasFault p ask u t i c why → Lowest p ask u t i c (number_of why) → Finds p ask u t i c (Fault why)
+data Finds (p : Service) (ask : Ask) (u t i c : ℕ) : Result Millis Refusal → Type 0 where
+  passes : {s : ℕ} → Passes p ask u t c s → Finds p ask u t i c (Ok (record { 0 = s }))
+  finds : {why : Refusal} → HasFault p ask u t i c why → Lowest p ask u t i c (number_of why) → Finds p ask u t i c (Err why)
 
 module _ (p : Service) (ask : Ask) (u t i c : ℕ) where
   lowest_first : Lowest p ask u t i c 18
@@ -123,7 +121,7 @@ module _ (p : Service) (ask : Ask) (u t i c : ℕ) where
       same : number_of why ≡ number_of other → suc (number_of why) ≤ number_of other
       same q = absurd (n (subst (HasFault p ask u t i c) (same_fault f e (sym q)) f))
 
-  unless_finds : {A : Type 0} {b : Bool} (why : Refusal) {later : Judged} → why ≡ fault_of i (number_of why - 18) → Verdict A b
+  unless_finds : {A : Type 0} {b : Bool} (why : Refusal) {later : Result Millis Refusal} → why ≡ fault_of i (number_of why - 18) → Verdict A b
       → ((A → ⊥) → HasFault p ask u t i c why) → (HasFault p ask u t i c why → A → ⊥) → Lowest p ask u t i c (number_of why)
       → (A → Lowest p ask u t i c (suc (number_of why)) → Finds p ask u t i c later) → Finds p ask u t i c (unless b why later)
   unless_finds why e (holds x) at told low next = next x (lowest_next why e (λ f. told f x) low)
@@ -185,10 +183,10 @@ module _ (p : Service) (ask : Ask) (u t i c : ℕ) where
       (λ j low. unless_finds (ExcludedNode i) refl (tells_not _) (λ n. excluded_node l (not_false_true _ n)) (λ f e. subst T (sym (told_barred f) ∙ e) tt) low
       (λ b low. hop_finds l j b low (light_in p c) refl (over_contact p ask c t) refl)))
 
-pub judged_passes : (p : Service) (ask : Ask) (u t i c : ℕ) (s : Millis) → judged p ask u t i c ≡ Good s → Passes p ask u t c s.0
+pub judged_passes : (p : Service) (ask : Ask) (u t i c : ℕ) (s : Millis) → judged p ask u t i c ≡ Ok s → Passes p ask u t c s.0
 judged_passes p ask u t i c s = go (judged_finds p ask u t i c)
   where
-    go : {found : Judged} → Finds p ask u t i c found → found ≡ Good s → Passes p ask u t c s.0
+    go : {found : Result Millis Refusal} → Finds p ask u t i c found → found ≡ Ok s → Passes p ask u t c s.0
     go (passes {s = r} g) e = let q : r ≡ s.0 = cc in subst (Passes p ask u t c) q g
     go (finds f low) e = let z : ◌≡◌ {A = ℕ} 0 1 = cc in absurd (omega arith)
 
@@ -216,7 +214,7 @@ module _ (p : Service) (ask : Ask) where
   cause_from_lem u t k (c ∷ cs) e =
       go (judged_finds p ask u t (k + 1) c) (λ s. cause_from_lem (contact_of p c).to.0 s (k + 1) cs)
     where
-      go : {found : Judged} → Finds p ask u t (k + 1) c found
+      go : {found : Result Millis Refusal} → Finds p ask u t (k + 1) c found
           → ((s : ℕ) → carry p ask (contact_of p c).to.0 s cs ≡ None → Turned p ask (contact_of p c).to.0 s (k + 1) cs (cause_from p ask (contact_of p c).to.0 s (k + 1) cs))
           → Turned p ask u t k (c ∷ cs) (cause_by found (λ s. cause_from p ask (contact_of p c).to.0 s (k + 1) cs))
       go (passes {s} g) next = turned_on g (next s (sym (carry_passes cs g) ∙ e))
