@@ -19,12 +19,13 @@ impl<'a> CheckedPlan<'a> {
     pub fn of(tables: PlanTables<'a>) -> Option<CheckedPlan<'a>>
         ensures { MatchOption result (HoldPlan tables.entry → ⊥) (λ p. p.tables ≡ tables.entry) }
     {
-        if is_plan(
+        let is_valid = is_plan(
             tables.contacts,
             tables.contact_count,
             tables.ranges,
             tables.range_count,
-        ) {
+        );
+        if is_valid {
             Some(CheckedPlan { tables })
         } else {
             None
