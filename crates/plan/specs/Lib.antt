@@ -1,6 +1,9 @@
+pub mod Lent
 pub mod Light
 pub mod Model
 pub mod Plan
+pub mod RowKinds
+pub mod Rows
 pub mod Single
 pub mod Tables
 pub mod Verdict

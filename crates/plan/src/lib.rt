@@ -6,8 +6,12 @@
 
 mod light;
 mod rows;
+mod tables;
 mod valid;
 
 pub use light::Light;
-pub use rows::{Contact, Range, Span, WORDS, contact_numbered, contact_row, range_row, span_row};
+pub use rows::{
+    Contact, Range, Row, Span, WORDS, contact_numbered, contact_row, range_row, span_row,
+};
+pub use tables::PlanTables;
 pub use valid::{is_clear, is_good_contact, is_good_range, is_overlap};

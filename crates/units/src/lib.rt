@@ -4,15 +4,15 @@
 #![tactic(auto)]
 
 // The number of a contact: its line's place among the contact lines, counted from 1.
-#[derive(Clone, Copy)]
+#[derive(Clone, Copy, PartialEq, Eq, PartialOrd, Ord)]
 pub struct ContactNo(pub u64);
 
 // The number of a node, from 1.
-#[derive(Clone, Copy)]
+#[derive(Clone, Copy, PartialEq, Eq, PartialOrd, Ord)]
 pub struct NodeNo(pub u64);
 
 // A time, or a length of time, in whole milliseconds.
-#[derive(Clone, Copy)]
+#[derive(Clone, Copy, PartialEq, Eq, PartialOrd, Ord)]
 pub struct Millis(pub u64);
 
 // What is asked: which passes carry a file of `size` bytes from `source`, where it is ready at
@@ -133,30 +133,30 @@ pub fn place(why: Refusal) -> u64
     ensures { result ≡ place_of why }
 {
     match why {
-        Refusal::LongText => 0,
         Refusal::NoHeader => 1,
-        Refusal::LineShape(line) => line,
-        Refusal::LineValue(line) => line,
-        Refusal::AfterRange(line) => line,
-        Refusal::TooMany(line) => line,
-        Refusal::LineOverlap(line) => line,
-        Refusal::FewRows => 0,
-        Refusal::NoPlan => 0,
+        Refusal::LineShape(line)
+        | Refusal::LineValue(line)
+        | Refusal::AfterRange(line)
+        | Refusal::TooMany(line)
+        | Refusal::LineOverlap(line)
+        | Refusal::AskShape(line) => line,
         Refusal::ShortOutput(needed) => needed,
-        Refusal::AskValue => 0,
-        Refusal::SameNode => 0,
-        Refusal::NoChain => 0,
-        Refusal::TooLate => 0,
-        Refusal::ShortChain => 0,
-        Refusal::AskShape(line) => line,
-        Refusal::NoContact(position) => position,
-        Refusal::NotJoined(position) => position,
-        Refusal::ExcludedNode(position) => position,
-        Refusal::NotRanged(position) => position,
-        Refusal::NotFitting(position) => position,
-        Refusal::EndsElsewhere(position) => position,
-        Refusal::BadClass => 0,
-        Refusal::FullBook => 0,
-        Refusal::NotOpen => 0,
+        Refusal::NoContact(position)
+        | Refusal::NotJoined(position)
+        | Refusal::ExcludedNode(position)
+        | Refusal::NotRanged(position)
+        | Refusal::NotFitting(position)
+        | Refusal::EndsElsewhere(position) => position,
+        Refusal::LongText
+        | Refusal::FewRows
+        | Refusal::NoPlan
+        | Refusal::AskValue
+        | Refusal::SameNode
+        | Refusal::NoChain
+        | Refusal::TooLate
+        | Refusal::ShortChain
+        | Refusal::BadClass
+        | Refusal::FullBook
+        | Refusal::NotOpen => 0,
     }
 }

@@ -9,6 +9,3 @@ use Rattle.plan.proofs.valid.is_clear.Given as goal
 
 abbrev pub invariant-loop-j : goal.invariant-loop-j
 invariant-loop-j l = each (λ y. not (overlap l.one y)) (rows_from (span_at l.table) l.k (l.n - l.k)) ≡ each (λ y. not (overlap l.one y)) (rows_from (span_at l.table) l.j (l.n - l.j))
-
-abbrev pub decreases-loop-j : goal.decreases-loop-j
-decreases-loop-j l = l.n - l.j

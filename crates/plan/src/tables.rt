@@ -1,0 +1,11 @@
+// The two tables of a plan.
+
+// The tables of a plan as they are lent, of which nothing is known yet: a slice of words and how many
+// rows it has, for the contacts and for the ranges.
+#[derive(Clone, Copy)]
+pub struct PlanTables<'a> {
+    pub contacts: &'a [u64],
+    pub contact_count: usize,
+    pub ranges: &'a [u64],
+    pub range_count: usize,
+}
