@@ -9,6 +9,7 @@ use native.Mathlib.Numerals.{add-one}
 use native.Mathlib.Omega.{arith}
 use lib.ListN.{length, get_or, take, drop, take-append-drop}
 use lib.Seq.{drop-cons}
+use Rattle.std.specs.Prelude.{Result, Ok, Err}
 use Rattle.units.specs.declared.Refusal.{Refusal}
 use Rattle.units.specs.Limits.{most_contacts, most_ranges}
 use Rattle.plan.specs.declared.rows.Contact.{Contact}
@@ -17,9 +18,8 @@ use Rattle.plan.specs.Plan.{Plan}
 use Rattle.plan.specs.Tables.{words, contact_at, range_at, rows_from, plan_of}
 use Rattle.plan.proofs.Lent.{length_contacts, length_ranges}
 use Rattle.plan.proofs.RowList.{map_rows}
-use Rattle.text.specs.declared.answer.PlanRead.{PlanRead}
-use Rattle.text.specs.declared.answer.PlanRead.TheVariants.{Rows, Refused as NotRead}
-use Rattle.text.specs.Calls.{Kept, Reads, few_contacts, few_ranges, refused, accepted}
+use Rattle.text.specs.declared.answer.Counts.{Counts}
+use Rattle.text.specs.Calls.{counts, Kept, Reads, few_contacts, few_ranges, refused, accepted}
 use Rattle.text.specs.Reading.{Accepted, Refused, ReadsText}
 use Rattle.text.proofs.Theorems.{reads_text_determined, accepts_exactly}
 
@@ -103,12 +103,12 @@ read_counts text contacts ranges m n reads =
 pub apart : {p : Plan} {w : Refusal} → Accepted p ≡ Refused w → ⊥
 apart e = let z : ◌≡◌ {A = ℕ} 0 1 = cc in omega arith
 
-abbrev Same : PlanRead → List ℕ → List ℕ → PlanRead → List ℕ → List ℕ → Type 0
+abbrev Same : Result Counts Refusal → List ℕ → List ℕ → Result Counts Refusal → List ℕ → List ℕ → Type 0
 Same a cs rs b ds ss = (a ≡ b) × (cs ≡ ds) × (rs ≡ ss)
 
 module _ {text contacts ranges : List ℕ} (lc : most_contacts * words ≤ length contacts) (lr : most_ranges * words ≤ length ranges) where
   both_accepted : (m n m' n' : ℕ) (cs rs ds ss : List ℕ) → ReadsText text (Accepted (plan_of cs m rs n)) → ReadsText text (Accepted (plan_of ds m' ss n'))
-      → Kept m contacts cs → Kept n ranges rs → Kept m' contacts ds → Kept n' ranges ss → Same (Rows m n) cs rs (Rows m' n') ds ss
+      → Kept m contacts cs → Kept n ranges rs → Kept m' contacts ds → Kept n' ranges ss → Same (Ok (counts m n)) cs rs (Ok (counts m' n')) ds ss
   unfolding plan_of
   both_accepted m n m' n' cs rs ds ss r r' kc kr kd ks =
       let told : Accepted (plan_of cs m rs n) ≡ Accepted (plan_of ds m' ss n') = reads_text_determined r r' in
@@ -116,14 +116,14 @@ module _ {text contacts ranges : List ℕ} (lc : most_contacts * words ≤ lengt
       let count = read_counts text cs rs m n r in
       let em : m' ≡ m = sym (length_contacts ds m' ss n') ∙ ap (λ (p : Plan). length p.contacts) (sym same) ∙ length_contacts cs m rs n in
       let en : n' ≡ n = sym (length_ranges ds m' ss n') ∙ ap (λ (p : Plan). length p.ranges) (sym same) ∙ length_ranges cs m rs n in (
-        ap₂ Rows (sym em) (sym en),
+        ap₂ (λ (i j : ℕ). Ok (counts i j)) (sym em) (sym en),
         contacts_determined cs ds contacts m (omega (arith, count.0)) kc (subst (λ (k : ℕ). Kept k contacts ds) em kd)
             (ap (λ (p : Plan). p.contacts) same ∙ ap (rows_from (contact_at ds) 0) em),
         ranges_determined rs ss ranges n (omega (arith, count.1)) kr (subst (λ (k : ℕ). Kept k ranges ss) en ks)
             (ap (λ (p : Plan). p.ranges) same ∙ ap (rows_from (range_at ss) 0) en),
       )
 
-pub reads_determined : {text contacts ranges : List ℕ} {a b : PlanRead} {cs rs ds ss : List ℕ} → Reads text contacts ranges a cs rs
+pub reads_determined : {text contacts ranges : List ℕ} {a b : Result Counts Refusal} {cs rs ds ss : List ℕ} → Reads text contacts ranges a cs rs
     → Reads text contacts ranges b ds ss → (a ≡ b) × (cs ≡ ds) × (rs ≡ ss)
 reads_determined (few_contacts h) (few_contacts h') = (refl, refl, refl)
 reads_determined (few_contacts h) (few_ranges h') = (refl, refl, refl)
@@ -138,7 +138,7 @@ reads_determined (refused w lc lr r) (few_ranges h) = absurd (omega arith)
 reads_determined (refused w lc lr r) (refused v ld ls s) =
     let told : Refused w ≡ Refused v = reads_text_determined r s in
     let same : w ≡ v = cc in
-    (ap NotRead same, refl, refl)
+    (ap Err same, refl, refl)
 reads_determined (refused w lc lr r) (accepted m n cs rs ld ls s kc kr) = absurd (apart (reads_text_determined s r))
 reads_determined (accepted m n cs rs lc lr r kc kr) (few_contacts h) = absurd (omega arith)
 reads_determined (accepted m n cs rs lc lr r kc kr) (few_ranges h) = absurd (omega arith)

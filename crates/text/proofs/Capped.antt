@@ -5,11 +5,11 @@
 use mathlib.Core.Bool.{Bool, true, false, cond}
 use mathlib.Core.Path.{◌≡◌, refl, ap}
 use mathlib.Core.List.{List, [], ◌∷◌}
-use mathlib.Core.Option.{some}
 use Prim.Native.Nat.{ℕ, ◌+◌, ◌-◌, ◌*◌}
 use native.Mathlib.Omega.{arith}
 use lib.Dec.{ltb, leb}
 use lib.ListN.{length}
+use Rattle.std.specs.Prelude.{Some, None}
 use Rattle.units.specs.Limits.{last_time, most_rate, most_light, most_nodes, most_contacts, most_ranges}
 use Rattle.plan.specs.declared.rows.Contact.{Contact}
 use Rattle.plan.specs.declared.rows.Range.{Range}
@@ -17,11 +17,10 @@ use Rattle.plan.specs.Model.{good_contact, good_range}
 use Rattle.plan.specs.Plan.{Plan, GoodContact, GoodRange}
 use Rattle.plan.specs.Verdict.{Verdict, holds, fails}
 use Rattle.plan.proofs.Tests.{good_contact_tells, good_range_tells}
-use Rattle.text.specs.declared.said.Said.{Said}
-use Rattle.text.specs.declared.said.Said.TheVariants.{AContact, ARange, Nothing}
+use Rattle.text.specs.declared.said.Line.TheVariants.{Contact as AContact, Range as ARange}
 use Rattle.text.specs.Digits.{nought, value_from, value}
 use Rattle.text.specs.Reading.{after_range, too_many, bad_value}
-use Rattle.text.specs.Model.{row_fault, contact_fault, range_fault, with_contact, with_range, unless, judge, capped, capped_from, capped_contact, capped_range, capped_said}
+use Rattle.text.specs.Model.{Said, row_fault, contact_fault, range_fault, with_contact, with_range, unless, judge, capped, capped_from, capped_contact, capped_range, capped_said}
 
 capped_step : (v d : ℕ) → capped (capped v * 10 + d) ≡ capped (v * 10 + d)
 unfolding capped
@@ -81,44 +80,44 @@ module _ (r : Range) where
 -- ---- rows that are not good are judged alike
 
 module _ (rows : Plan) where
-  contact_bad : (c d : Contact) → good_contact c ≡ false → good_contact d ≡ false → judge rows (AContact c) ≡ judge rows (AContact d)
+  contact_bad : (c d : Contact) → good_contact c ≡ false → good_contact d ≡ false → judge rows (Some (AContact c)) ≡ judge rows (Some (AContact d))
   unfolding judge contact_fault row_fault unless
   contact_bad c d e f = rw (e, f) (go (ltb 0 (length rows.ranges)) (leb most_contacts (length rows.contacts)))
     where
-      go : (a b : Bool) → unless (cond a (some after_range) (cond b (some too_many) (some bad_value))) (with_contact rows c)
-          ≡ unless (cond a (some after_range) (cond b (some too_many) (some bad_value))) (with_contact rows d)
+      go : (a b : Bool) → unless (cond a (Some after_range) (cond b (Some too_many) (Some bad_value))) (with_contact rows c)
+          ≡ unless (cond a (Some after_range) (cond b (Some too_many) (Some bad_value))) (with_contact rows d)
       go true b = refl
       go false true = refl
       go false false = refl
 
-  range_bad : (r s : Range) → good_range r ≡ false → good_range s ≡ false → judge rows (ARange r) ≡ judge rows (ARange s)
+  range_bad : (r s : Range) → good_range r ≡ false → good_range s ≡ false → judge rows (Some (ARange r)) ≡ judge rows (Some (ARange s))
   unfolding judge range_fault row_fault unless
   range_bad r s e f = rw (e, f) (go (leb most_ranges (length rows.ranges)))
     where
-      go : (a : Bool) → unless (cond a (some too_many) (some bad_value)) (with_range rows r) ≡ unless (cond a (some too_many) (some bad_value)) (with_range rows s)
+      go : (a : Bool) → unless (cond a (Some too_many) (Some bad_value)) (with_range rows r) ≡ unless (cond a (Some too_many) (Some bad_value)) (with_range rows s)
       go true = refl
       go false = refl
 
   pub capped_judged : (s : Said) → judge rows (capped_said s) ≡ judge rows s
   unfolding capped_said
-  capped_judged (AContact c) = go refl (good_contact_tells (capped_contact c)) refl (good_contact_tells c)
+  capped_judged (Some (AContact c)) = go refl (good_contact_tells (capped_contact c)) refl (good_contact_tells c)
     where
-      same : capped_contact c ≡ c → judge rows (AContact (capped_contact c)) ≡ judge rows (AContact c)
-      same e = ap (λ (d : Contact). judge rows (AContact d)) e
+      same : capped_contact c ≡ c → judge rows (Some (AContact (capped_contact c))) ≡ judge rows (Some (AContact c))
+      same e = ap (λ (d : Contact). judge rows (Some (AContact d))) e
 
       go : {a b : Bool} → good_contact (capped_contact c) ≡ a → Verdict (GoodContact (capped_contact c)) a → good_contact c ≡ b → Verdict (GoodContact c) b
-          → judge rows (AContact (capped_contact c)) ≡ judge rows (AContact c)
+          → judge rows (Some (AContact (capped_contact c))) ≡ judge rows (Some (AContact c))
       go e (holds g) f w = same (contact_after c g)
       go e (fails n) f (holds g) = same (contact_before c g)
       go e (fails n) f (fails m) = contact_bad (capped_contact c) c e f
-  capped_judged (ARange r) = go refl (good_range_tells (capped_range r)) refl (good_range_tells r)
+  capped_judged (Some (ARange r)) = go refl (good_range_tells (capped_range r)) refl (good_range_tells r)
     where
-      same : capped_range r ≡ r → judge rows (ARange (capped_range r)) ≡ judge rows (ARange r)
-      same e = ap (λ (d : Range). judge rows (ARange d)) e
+      same : capped_range r ≡ r → judge rows (Some (ARange (capped_range r))) ≡ judge rows (Some (ARange r))
+      same e = ap (λ (d : Range). judge rows (Some (ARange d))) e
 
       go : {a b : Bool} → good_range (capped_range r) ≡ a → Verdict (GoodRange (capped_range r)) a → good_range r ≡ b → Verdict (GoodRange r) b
-          → judge rows (ARange (capped_range r)) ≡ judge rows (ARange r)
+          → judge rows (Some (ARange (capped_range r))) ≡ judge rows (Some (ARange r))
       go e (holds g) f w = same (range_after r g)
       go e (fails n) f (holds g) = same (range_before r g)
       go e (fails n) f (fails m) = range_bad (capped_range r) r e f
-  capped_judged Nothing = refl
+  capped_judged None = refl

@@ -6,10 +6,10 @@ use mathlib.Core.Bool.{Bool, cond}
 use mathlib.Core.Path.{◌≡◌, refl, sym, subst}
 use mathlib.Core.List.{List, [], ◌∷◌, ◌++◌, map, map-append, append_assoc, append-nil, cons≢nil, head-eq_of_cons-eq}
 use mathlib.Core.Logic.{◌⊎◌, inl, inr, ⊎_elim}
-use mathlib.Core.Option.{Option, some}
 use Prim.Native.Nat.{◌≤◌, ◌<◌, zero-le, suc-le-suc}
 use native.Mathlib.Omega.{arith}
 use lib.ListN.{length}
+use Rattle.std.specs.Prelude.{Option, Some, None}
 use Rattle.units.specs.Limits.{most_contacts, most_ranges}
 use Rattle.plan.specs.declared.rows.Contact.{Contact}
 use Rattle.plan.specs.declared.rows.Range.{Range}
@@ -20,7 +20,7 @@ use Rattle.plan.specs.Verdict.{Verdict, holds, fails}
 use Rattle.plan.proofs.Tests.{good_contact_tells, good_range_tells}
 use Rattle.plan.proofs.Verdicts.{tells_lt}
 use Rattle.text.specs.Lines.{Line}
-use Rattle.text.specs.declared.said.Said.TheVariants.{AContact, ARange, Nothing}
+use Rattle.text.specs.declared.said.Line.TheVariants.{Contact as AContact, Range as ARange}
 use Rattle.text.specs.Model.{said_by, contact_fault, range_fault, with_contact, with_range, Judged, faulty, taken, unless, judge}
 use Rattle.text.specs.Reading.{Fault, after_range, order, RowFault, HasFault, shapeless, late, of_contact, of_range}
 use Rattle.text.specs.Rows.{contact_word, range_word, Shaped, contact_of, range_of, contact_line, range_line, plan_lines}
@@ -93,7 +93,7 @@ module _ (rows : Plan) (l : Line) where
   unfolding plan_lines with_range
   range_more s = rw (map-append, range_line_lem l s) (sym (append_assoc (map contact_line rows.contacts) (map range_line rows.ranges) (l ∷ [])))
 
-  contact_judged : Shaped contact_word words l → LineJudged rows l (judge rows (AContact (contact_of l)))
+  contact_judged : Shaped contact_word words l → LineJudged rows l (judge rows (Some (AContact (contact_of l))))
   unfolding judge contact_fault unless order with_contact
   contact_judged s =
       go (tells_lt 0 (length rows.ranges))
@@ -106,7 +106,7 @@ module _ (rows : Plan) (l : Line) where
 
       go : {b : Bool} {o : Option Fault} → Verdict (0 < length rows.ranges) b
           → RowJudged most_contacts GoodContact contact_span rows.contacts (contact_of l) o
-          → LineJudged rows l (unless (cond b (some after_range) o) (with_contact rows (contact_of l)))
+          → LineJudged rows l (unless (cond b (Some after_range) o) (with_contact rows (contact_of l)))
       go (holds h) v = found (late s h) at_least
       go (fails h) (fine f) =
           more (contact_more s (no_ranges rows.ranges h))
@@ -114,7 +114,7 @@ module _ (rows : Plan) (l : Line) where
       go (fails h) (at_fault r first) =
           found (of_contact s r) (λ g k. ⊎_elim (first g) (λ e. absurd (h e.0)) (contact_has rows l s k))
 
-  range_judged : Shaped range_word words l → LineJudged rows l (judge rows (ARange (range_of l)))
+  range_judged : Shaped range_word words l → LineJudged rows l (judge rows (Some (ARange (range_of l))))
   unfolding judge range_fault unless with_range
   range_judged s = go (row_judged most_ranges GoodRange range_span good_range good_range_tells rows.ranges (range_of l))
     where
@@ -130,7 +130,7 @@ module _ (rows : Plan) (l : Line) where
   line_judged = go (shaped_tells contact_word words l) (shaped_tells range_word words l)
     where
       go : {a b : Bool} → Verdict (Shaped contact_word words l) a → Verdict (Shaped range_word words l) b
-          → LineJudged rows l (judge rows (cond a (AContact (contact_of l)) (cond b (ARange (range_of l)) Nothing)))
+          → LineJudged rows l (judge rows (cond a (Some (AContact (contact_of l))) (cond b (Some (ARange (range_of l))) None)))
       go (holds s) v = contact_judged s
       go (fails s) (holds t) = range_judged t
       go (fails s) (fails t) = found (shapeless s t) (λ g k. zero-le)

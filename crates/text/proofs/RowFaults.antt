@@ -8,7 +8,7 @@ use mathlib.Core.Path.{refl, sym, subst}
 use mathlib.Core.List.Memᴰ
 use mathlib.Core.List.{List, [], ◌∷◌, ◌++◌, map, map-append, Memᴰ}
 use mathlib.Core.Logic.{⊎_elim}
-use mathlib.Core.Option.{Option, none, some}
+use Rattle.std.specs.Prelude.{Option, None, Some}
 use Prim.Native.Nat.{ℕ, ◌≤◌, ◌<◌}
 use native.Mathlib.Omega.{arith}
 use lib.ListN.{length, length-append}
@@ -58,9 +58,9 @@ module _ {A : Type 0} (most : ℕ) (Good : A → Type 0) (span : A → Span) whe
 
   -- what is found of a row: its first fault, or none
   pub data RowJudged (earlier : List A) (row : A) : Option Fault → Type 0 where
-    fine : Fits earlier row → RowJudged earlier row none
+    fine : Fits earlier row → RowJudged earlier row None
     at_fault : {f : Fault} → RowFault most Good span earlier row f → ((g : Fault) → RowFault most Good span earlier row g → order f ≤ order g)
-        → RowJudged earlier row (some f)
+        → RowJudged earlier row (Some f)
 
   -- a row's faults come after the shape and the place among the lines
   pub row_order : (earlier : List A) (row : A) (g : Fault) → RowFault most Good span earlier row g → 2 ≤ order g
@@ -101,7 +101,7 @@ module _ {A : Type 0} (most : ℕ) (Good : A → Type 0) (span : A → Span) whe
         from_meets room is-good g (meets other m o) = omega arith
 
         go : {a b c : Bool} → Verdict (most ≤ length earlier) a → Verdict (Good row) b → Looked earlier row c
-            → RowJudged earlier row (cond a (some too_many) (cond (not b) (some bad_value) (cond c none (some overlapping))))
+            → RowJudged earlier row (cond a (Some too_many) (cond (not b) (Some bad_value) (cond c None (Some overlapping))))
         go (holds h) v w = at_fault (full h) (row_order earlier row)
         go (fails h) (fails n) w = at_fault (bad n) (from_bad h)
         go (fails h) (holds g) (none_meets f) = fine (record { room = omega arith; good = g; clear = f })

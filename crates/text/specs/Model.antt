@@ -1,13 +1,12 @@
 -- Reading as a fold over the lines, with the rows so far. A reader of the promises may skip it: proofs/Theorems.antt has that it gives what
 -- Reading.antt says.
 --     line_in, up_to      a line between two places of the text, and where the next mark stands (proofs/Cuts.antt)
---     said_by            the row that a line says, or none: its shape
+--     said_by            what a line says, or none: its shape
 --     judge             the rows with one row more, or the first fault in the order
 --     read_model         the outcome of a text
 --     capped            what the code keeps of a number, 64 bits (proofs/Capped.antt: no judgement changes)
 -- Assumes nothing.
-use Rattle.std.specs.Prelude.{Bool, true, false, not, ◌&&◌, ◌||◌, cond, List, [], ◌∷◌, ◌++◌, map, ℕ, suc, ◌+◌, ◌-◌, ◌*◌, min, leb, ltb, eqb, length, take, drop, get_or}
-use Rattle.std.proofs.Math.Option.{Option, none, some}
+use Rattle.std.specs.Prelude.{Bool, true, false, not, ◌&&◌, ◌||◌, cond, List, [], ◌∷◌, ◌++◌, map, ℕ, suc, ◌+◌, ◌-◌, ◌*◌, min, leb, ltb, eqb, length, take, drop, get_or, Option, None, Some}
 use Rattle.units.specs.declared.Refusal.TheVariants.{LongText, NoHeader}
 use Rattle.units.specs.Limits.{most_text, most_contacts, most_ranges}
 use Rattle.plan.specs.declared.rows.Contact.{Contact}
@@ -16,8 +15,8 @@ use Rattle.plan.specs.declared.rows.Span.{Span}
 use Rattle.plan.specs.Plan.{Plan, contact_span, range_span}
 use Rattle.plan.specs.Tables.{words}
 use Rattle.plan.specs.Model.{good_contact, good_range, overlap, each}
-use Rattle.text.specs.declared.said.Said.{Said}
-use Rattle.text.specs.declared.said.Said.TheVariants.{AContact, ARange, Nothing}
+use Rattle.text.specs.declared.said.Line.{Line as SaidLine}
+use Rattle.text.specs.declared.said.Line.TheVariants.{Contact as AContact, Range as ARange}
 use Rattle.text.specs.Digits.{nought}
 use Rattle.text.specs.Lines.{Line, blank, fronted, lines_of}
 use Rattle.text.specs.Rows.{header, contact_word, range_word, contact_of, range_of}
@@ -52,19 +51,23 @@ is_number ds = ltb 0 (length ds) && each is_digit ds && (not (eqb (get_or ds 0 0
 unfoldable pub is_shaped : List ℕ → ℕ → Line → Bool
 is_shaped word count l = same l.word word && eqb (length l.fields) count && each is_number l.fields && l.ended
 
+-- what the code has for it: a contact, a range, or none where the line has another shape
+abbrev pub Said : Type 0
+Said = Option SaidLine
+
 unfoldable pub said_by : Line → Said
-said_by l = cond (is_shaped contact_word words l) (AContact (contact_of l)) (cond (is_shaped range_word words l) (ARange (range_of l)) Nothing)
+said_by l = cond (is_shaped contact_word words l) (Some (AContact (contact_of l))) (cond (is_shaped range_word words l) (Some (ARange (range_of l))) None)
 
 -- ---- its faults, held against the rows so far
 
 -- the first fault of a row after the earlier rows of its kind
 unfoldable pub row_fault : {A : Type 0} → ℕ → (A → Bool) → (A → Span) → List A → A → Option Fault
 row_fault most good span earlier row =
-    cond (leb most (length earlier)) (some too_many)
-    (cond (not (good row)) (some bad_value) (cond (each (λ s. not (overlap s (span row))) (map span earlier)) none (some overlapping)))
+    cond (leb most (length earlier)) (Some too_many)
+    (cond (not (good row)) (Some bad_value) (cond (each (λ s. not (overlap s (span row))) (map span earlier)) None (Some overlapping)))
 
 unfoldable pub contact_fault : Plan → Contact → Option Fault
-contact_fault rows c = cond (ltb 0 (length rows.ranges)) (some after_range) (row_fault most_contacts good_contact contact_span rows.contacts c)
+contact_fault rows c = cond (ltb 0 (length rows.ranges)) (Some after_range) (row_fault most_contacts good_contact contact_span rows.contacts c)
 
 unfoldable pub range_fault : Plan → Range → Option Fault
 range_fault rows r = row_fault most_ranges good_range range_span rows.ranges r
@@ -80,13 +83,13 @@ pub data Judged : Type 0 where
   taken : Plan → Judged
 
 unfoldable pub unless : Option Fault → Plan → Judged
-unless none p = taken p
-unless (some f) p = faulty f
+unless None p = taken p
+unless (Some f) p = faulty f
 
 unfoldable pub judge : Plan → Said → Judged
-judge rows (AContact c) = unless (contact_fault rows c) (with_contact rows c)
-judge rows (ARange r) = unless (range_fault rows r) (with_range rows r)
-judge rows Nothing = faulty bad_shape
+judge rows (Some (AContact c)) = unless (contact_fault rows c) (with_contact rows c)
+judge rows (Some (ARange r)) = unless (range_fault rows r) (with_range rows r)
+judge rows None = faulty bad_shape
 
 -- ---- line by line
 
@@ -132,6 +135,6 @@ capped_range r = record {
 }
 
 unfoldable pub capped_said : Said → Said
-capped_said (AContact c) = AContact (capped_contact c)
-capped_said (ARange r) = ARange (capped_range r)
-capped_said Nothing = Nothing
+capped_said (Some (AContact c)) = Some (AContact (capped_contact c))
+capped_said (Some (ARange r)) = Some (ARange (capped_range r))
+capped_said None = None

@@ -1,16 +1,8 @@
-// What `read` and `write` answer.
-use units::Refusal;
+// What `read` answers of a text that it takes.
 
-// The two counts, contacts first, or why the text is refused.
-#[derive(Clone, Copy)]
-pub enum PlanRead {
-    Rows(usize, usize),
-    Refused(Refusal),
-}
-
-// What `write` answers: how long the text is, or why nothing is written.
-#[derive(Clone, Copy)]
-pub enum Written {
-    Length(usize),
-    Refused(Refusal),
+// How many contacts and how many ranges the text has.
+#[derive(Clone, Copy, PartialEq, Eq)]
+pub struct Counts {
+    pub contacts: usize,
+    pub ranges: usize,
 }

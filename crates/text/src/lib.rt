@@ -7,5 +7,5 @@
 mod answer;
 mod said;
 
-pub use answer::{PlanRead, Written};
-pub use said::Said;
+pub use answer::Counts;
+pub use said::Line;

@@ -1,10 +1,9 @@
-// What a line says.
+// What a line of a plan says.
 use plan::{Contact, Range};
 
-// A contact, a range, or nothing where the line has another shape.
+// A contact or a range.
 #[derive(Clone, Copy)]
-pub enum Said {
-    AContact(Contact),
-    ARange(Range),
-    Nothing,
+pub enum Line {
+    Contact(Contact),
+    Range(Range),
 }

@@ -1,12 +1,11 @@
 -- What the code of a line knows of the model.
---     number_blank, number_by                         whether bytes are a number, by the tests in their order
 --     field_end, field_none, field_number, field_bad  the field behind a tab
 --     fields_more, fields_none                        the fields of a line from a place on: one more, and none left
 --     numbers_goes, numbers_stops, numbers_ends       the loop over the fields
 --     fields_are, shape_is                            a line's fields and its shape, by where its word ends
 --     said_bad, said_contact, said_range, said_other  what a line says
 -- Assumes nothing.
-use mathlib.Core.Bool.{Bool, true, false, not, ◌&&◌, ◌||◌, and-true, and-false}
+use mathlib.Core.Bool.{Bool, true, false, ◌&&◌, and-true, and-false}
 use mathlib.Core.List.{List, [], ◌∷◌, ◌++◌, map, append_assoc, append-nil}
 use mathlib.Core.Path.{◌≡◌, refl, sym, ap, ap₂, ◌∙◌}
 use Prim.Native.Nat.{ℕ, zero, suc, ◌+◌, ◌-◌, ◌≤◌, ◌<◌}
@@ -17,33 +16,26 @@ use borrow.Author.Tests.{lt-ltb, le-ltb, eq-eqb, ne_eqb}
 use lib.Dec.{eqb}
 use lib.ListN.{length, get_or, take, drop, set, length-drop, length-take}
 use lib.Seq.{take_all, take-suc-set, drop-drop}
+use Rattle.std.specs.Prelude.{Some, None}
 use Rattle.plan.specs.declared.rows.Contact.{Contact}
 use Rattle.plan.specs.declared.rows.Range.{Range}
 use Rattle.plan.specs.Model.{each}
 use Rattle.plan.specs.Tables.{words, contact_at, range_at}
 use Rattle.plan.specs.Verdict.{Verdict, holds, fails}
 use Rattle.plan.proofs.Verdicts.{tells_eq}
-use Rattle.text_lines.specs.declared.line.Field.TheVariants.{Number, Bad}
-use Rattle.text.specs.declared.said.Said.TheVariants.{AContact, ARange, Nothing}
+use Rattle.text.specs.declared.said.Line.TheVariants.{Contact as AContact, Range as ARange}
+use Rattle.text_lines.specs.declared.line.Field.{Field}
 use Rattle.text.specs.Digits.{value}
 use Rattle.text.specs.Lines.{tab, Line}
-use Rattle.text.specs.Model.{up_to, line_in, same, is_digit, is_number, is_shaped, said_by, capped, capped_contact, capped_range, capped_said}
+use Rattle.text.specs.Model.{up_to, line_in, same, is_number, is_shaped, said_by, capped, capped_contact, capped_range, capped_said}
 use Rattle.text_lines.specs.Model.{capped_value, fields_from, good_fields, field_bytes, field_at}
 use Rattle.text.specs.Rows.{contact_word, range_word, contact_of, range_of}
 use Rattle.text.proofs.Cuts.{up_to_le, line_in_ended, line_cut, line_left}
 
--- ---- a number
-
-pub number_blank : (ds : List ℕ) → length ds ≡ 0 → false ≡ is_number ds
-unfolding is_number
-number_blank ds e = rw (le-ltb 0 (length ds) (omega arith))
-
-pub number_by : (ds : List ℕ) (d : Bool) → (length ds ≡ 0 → ⊥) → d ≡ each is_digit ds
-    → d && (not (eqb (get_or ds 0 0) 48) || eqb (length ds) 1) ≡ is_number ds
-unfolding is_number
-number_by ds d n e = rw (lt-ltb 0 (length ds) (omega arith), e)
-
 -- ---- a field
+
+abbrev pub field : ℕ → ℕ → Field
+field v end = record { value = v; end = end }
 
 module _ (line : List ℕ) (at : ℕ) where
   -- where the field ends
@@ -53,7 +45,7 @@ module _ (line : List ℕ) (at : ℕ) where
   pub field_end : at < length line → (end : ℕ) → end ≡ End → end ≤ length line
   field_end h end e = omega (arith, up_to_le tab (drop (at + 1) line), length-drop (at + 1) line)
 
-  pub field_none : length line ≤ at → Bad ≡ field_at line at
+  pub field_none : length line ≤ at → None ≡ field_at line at
   unfolding field_at
   field_none h = rw (le-ltb at (length line) h)
 
@@ -61,14 +53,14 @@ module _ (line : List ℕ) (at : ℕ) where
   cut_to end e = let n : end - (at + 1) ≡ up_to tab (drop (at + 1) line) = omega arith in ap (λ (k : ℕ). take k (drop (at + 1) line)) n
 
   pub field_number : at < length line → (end v : ℕ) (b : Bool) → end ≡ End → b ≡ is_number (take (end - (at + 1)) (drop (at + 1) line)) → b ≡ true
-      → v ≡ capped_value (take (end - (at + 1)) (drop (at + 1) line)) → Number v end ≡ field_at line at
+      → v ≡ capped_value (take (end - (at + 1)) (drop (at + 1) line)) → Some (field v end) ≡ field_at line at
   unfolding field_at
   field_number h end v b e eb t ev =
       let good : is_number (field_bytes line at) ≡ true = ap is_number (sym (cut_to end e)) ∙ sym eb ∙ t in
-      rw (lt-ltb at (length line) h, good) (ap₂ Number (ev ∙ ap capped_value (cut_to end e)) e)
+      rw (lt-ltb at (length line) h, good) (ap₂ (λ (n m : ℕ). Some (field n m)) (ev ∙ ap capped_value (cut_to end e)) e)
 
   pub field_bad : at < length line → (end : ℕ) (b : Bool) → end ≡ End → b ≡ is_number (take (end - (at + 1)) (drop (at + 1) line)) → b ≡ false
-      → Bad ≡ field_at line at
+      → None ≡ field_at line at
   unfolding field_at
   field_bad h end b e eb t =
       let bad : is_number (field_bytes line at) ≡ false = ap is_number (sym (cut_to end e)) ∙ sym eb ∙ t in
@@ -126,20 +118,21 @@ pub record IsField (line : List ℕ) (at v next : ℕ) : Type 0 where
   pub its_value : v ≡ capped_value (field_bytes line at)
   pub its_end : next ≡ End line at
 
-pub field_tells : (line : List ℕ) (at v next : ℕ) → field_at line at ≡ Number v next → IsField line at v next
+pub field_tells : (line : List ℕ) (at v next : ℕ) → field_at line at ≡ Some (field v next) → IsField line at v next
 unfolding field_at
 field_tells line at v next = go (dec_lt at (length line)) (is_number (field_bytes line at)) refl
   where
-    go : Dec (at < length line) → (b : Bool) → is_number (field_bytes line at) ≡ b → field_at line at ≡ Number v next → IsField line at v next
+    go : Dec (at < length line) → (b : Bool) → is_number (field_bytes line at) ≡ b → field_at line at ≡ Some (field v next) → IsField line at v next
     go (yes h) true e f =
-        let same : Number (capped_value (field_bytes line at)) (End line at) ≡ Number v next = rw (lt-ltb at (length line) h, e) at f in
-        record { inside = h; good = e; its_value = cc; its_end = cc }
+        let same : Some (field (capped_value (field_bytes line at)) (End line at)) ≡ Some (field v next) = rw (lt-ltb at (length line) h, e) at f in
+        let its : field v next ≡ field (capped_value (field_bytes line at)) (End line at) = cc in
+        record { inside = h; good = e; its_value = ap (λ (x : Field). x.value) its; its_end = ap (λ (x : Field). x.end) its }
     go (yes h) false e f =
-        let same : Bad ≡ Number v next = rw (lt-ltb at (length line) h, e) at f in
+        let same : None ≡ Some (field v next) = rw (lt-ltb at (length line) h, e) at f in
         let z : ◌≡◌ {A = ℕ} 0 1 = cc in
         absurd (omega arith)
     go (no h) b e f =
-        let same : Bad ≡ Number v next = rw (le-ltb at (length line) (omega arith)) at f in
+        let same : None ≡ Some (field v next) = rw (le-ltb at (length line) (omega arith)) at f in
         let z : ◌≡◌ {A = ℕ} 0 1 = cc in
         absurd (omega arith)
 
@@ -162,10 +155,10 @@ good_more count k f fs h e =
     rw e (ap (λ (b : Bool). b && each is_number fs) (eqb_suc (length fs) (count - k) (omega arith) ∙ ap (eqb (length fs)) n))
 
 module _ (line : List ℕ) (at : ℕ) where
-  pub next_inside : (v next : ℕ) → field_at line at ≡ Number v next → next ≤ length line
+  pub next_inside : (v next : ℕ) → field_at line at ≡ Some (field v next) → next ≤ length line
   next_inside v next e = let t = field_tells line at v next e in field_end line at t.inside next t.its_end
 
-  pub numbers_stored : (k v next : ℕ) (row : List ℕ) → k < length row → field_at line at ≡ Number v next
+  pub numbers_stored : (k v next : ℕ) (row : List ℕ) → k < length row → field_at line at ≡ Some (field v next)
       → take k row ++ map capped_value (fields_from line at) ≡ take (k + 1) (set row k v) ++ map capped_value (fields_from line next)
   numbers_stored k v next row h e =
       let t = field_tells line at v next e in
@@ -184,7 +177,7 @@ module _ (line : List ℕ) (at : ℕ) where
       sym (e ∙ ap (λ (fs : List (List ℕ)). take k row ++ map capped_value fs) (fields_none line at end) ∙ append-nil (take k row) ∙ take_all k row h)
 
   module _ (count k : ℕ) where
-    pub numbers_goes : (v next : ℕ) → k < count → field_at line at ≡ Number v next
+    pub numbers_goes : (v next : ℕ) → k < count → field_at line at ≡ Some (field v next)
         → good_fields (count - k) (fields_from line at) ≡ good_fields (count - (k + 1)) (fields_from line next)
     numbers_goes v next h e =
         let t = field_tells line at v next e in
@@ -192,14 +185,14 @@ module _ (line : List ℕ) (at : ℕ) where
         ∙ good_more count k (field_bytes line at) (fields_from line (End line at)) h t.good
         ∙ ap (λ (p : ℕ). good_fields (count - (k + 1)) (fields_from line p)) (sym t.its_end)
 
-    pub numbers_stops : k < count → field_at line at ≡ Bad → good_fields (count - k) (fields_from line at) ≡ false
+    pub numbers_stops : k < count → field_at line at ≡ None → good_fields (count - k) (fields_from line at) ≡ false
     unfolding field_at good_fields each
     numbers_stops h = go (dec_lt at (length line)) (is_number (field_bytes line at)) refl
       where
-        go : Dec (at < length line) → (b : Bool) → is_number (field_bytes line at) ≡ b → field_at line at ≡ Bad
+        go : Dec (at < length line) → (b : Bool) → is_number (field_bytes line at) ≡ b → field_at line at ≡ None
             → good_fields (count - k) (fields_from line at) ≡ false
         go (yes g) true e f =
-            let same : Number (capped_value (field_bytes line at)) (End line at) ≡ Bad = rw (lt-ltb at (length line) g, e) at f in
+            let same : Some (field (capped_value (field_bytes line at)) (End line at)) ≡ None = rw (lt-ltb at (length line) g, e) at f in
             let z : ◌≡◌ {A = ℕ} 0 1 = cc in
             absurd (omega arith)
         go (yes g) false e f = rw (fields_more line at g, e) (and-false (eqb (suc (length (fields_from line (End line at)))) (count - k)))
@@ -268,7 +261,7 @@ module _ (line : List ℕ) (end : ℕ) (ends : end ≡ 0 + up_to tab (drop 0 lin
   shape_is w count true = shaped w count ∙ sym (and-true (same (take end line) w && good_fields count (fields_from line end)))
   shape_is w count false = simp (line_in_ended, and-false)
 
-  pub said_bad : (b : Bool) → b ≡ good_fields words (fields_from line end) → b ≡ false → Nothing ≡ capped_said (said_by (line_in line true))
+  pub said_bad : (b : Bool) → b ≡ good_fields words (fields_from line end) → b ≡ false → None ≡ capped_said (said_by (line_in line true))
   unfolding said_by capped_said fields
   said_bad b eb e =
       let bad : good_fields words fields ≡ false = sym eb ∙ e in
@@ -276,7 +269,7 @@ module _ (line : List ℕ) (end : ℕ) (ends : end ≡ 0 + up_to tab (drop 0 lin
 
   module _ (b : Bool) (eb : b ≡ good_fields words (fields_from line end)) (good : b ≡ true) where
     pub said_contact : (row : List ℕ) (c : Contact) → same (take end line) contact_word ≡ true → row ≡ map capped_value (fields_from line end) → c ≡ contact_at row 0
-        → AContact c ≡ capped_said (said_by (line_in line true))
+        → Some (AContact c) ≡ capped_said (said_by (line_in line true))
     unfolding said_by capped_said capped_contact contact_of fields word
     said_contact row c s er ec =
         let is : is_shaped contact_word words (line_in line true) ≡ true = shaped contact_word words ∙ ap₂ (λ (x y : Bool). x && y) s (sym eb ∙ good) in
@@ -287,10 +280,10 @@ module _ (line : List ℕ) (end : ℕ) (ends : end ≡ 0 + up_to tab (drop 0 lin
           to = record { 0 = sym (capped_word fields 3) i };
           rate = sym (capped_word fields 4) i;
         } in
-        rw (is, whole) (ap AContact (ec ∙ ap (λ (r : List ℕ). contact_at r 0) er ∙ its))
+        rw (is, whole) (ap (λ (d : Contact). Some (AContact d)) (ec ∙ ap (λ (r : List ℕ). contact_at r 0) er ∙ its))
 
     pub said_range : (row : List ℕ) (r : Range) → same (take end line) contact_word ≡ false → same (take end line) range_word ≡ true
-        → row ≡ map capped_value (fields_from line end) → r ≡ range_at row 0 → ARange r ≡ capped_said (said_by (line_in line true))
+        → row ≡ map capped_value (fields_from line end) → r ≡ range_at row 0 → Some (ARange r) ≡ capped_said (said_by (line_in line true))
     unfolding said_by capped_said capped_range range_of fields word
     said_range row r n s er ec =
         let not_contact : is_shaped contact_word words (line_in line true) ≡ false = shaped contact_word words ∙ ap (λ (x : Bool). x && good_fields words fields) n in
@@ -302,9 +295,9 @@ module _ (line : List ℕ) (end : ℕ) (ends : end ≡ 0 + up_to tab (drop 0 lin
           b = record { 0 = sym (capped_word fields 3) i };
           light = record { 0 = sym (capped_word fields 4) i };
         } in
-        rw (not_contact, is, whole) (ap ARange (ec ∙ ap (λ (t : List ℕ). range_at t 0) er ∙ its))
+        rw (not_contact, is, whole) (ap (λ (d : Range). Some (ARange d)) (ec ∙ ap (λ (t : List ℕ). range_at t 0) er ∙ its))
 
-    pub said_other : same (take end line) contact_word ≡ false → same (take end line) range_word ≡ false → Nothing ≡ capped_said (said_by (line_in line true))
+    pub said_other : same (take end line) contact_word ≡ false → same (take end line) range_word ≡ false → None ≡ capped_said (said_by (line_in line true))
     unfolding said_by capped_said fields word
     said_other n m =
         let not_contact : is_shaped contact_word words (line_in line true) ≡ false = shaped contact_word words ∙ ap (λ (x : Bool). x && good_fields words fields) n in

@@ -1,69 +1,39 @@
 // A field's bytes as a number.
 ghost use Rattle.std.specs.Prelude.{◌≡◌, ◌+◌, ◌-◌, ◌*◌};
-ghost use Rattle.plan.specs.Model.{each};
+ghost use Rattle.std.specs.Char.{is_ascii_digit};
+ghost use Rattle.std.specs.List.{list_all};
 ghost use Rattle.text.specs.Digits.{nought, value};
-ghost use Rattle.text.specs.Model.{is_digit, is_number, capped};
-
-// The largest number that 64 bits hold, which stands for every larger one: no field may be so large.
-const MOST: u64 = 18_446_744_073_709_551_615;
-
-fn is_digit(b: u8) -> bool
-    ensures { result ≡ is_digit b }
-{
-    (48 <= b) & (b <= 57)
-}
+ghost use Rattle.text.specs.Model.{is_number, capped};
 
 fn are_digits(s: &[u8]) -> bool
-    ensures { result ≡ each is_digit s.now }
+    ensures { result ≡ list_all is_ascii_digit s.now }
 {
-    let mut i = 0;
-    while i < s.len() {
-        if !is_digit(s[i]) {
-            return false;
-        }
-        i += 1;
-    }
-    true
+    s.iter().all(u8::is_ascii_digit)
 }
 
 // Whether the bytes are decimal digits with no leading zero.
 pub fn is_number(s: &[u8]) -> bool
     ensures { result ≡ is_number s.now }
 {
-    if s.len() == 0 {
-        return false;
+    match s.first() {
+        Some(b'0') => s.len() == 1,
+        Some(_) => are_digits(s),
+        None => false,
     }
-    are_digits(s) & ((s[0] != 48) | (s.len() == 1))
 }
 
-// What a digit is worth.
-fn worth(b: u8) -> u64
-    ensures { result ≡ b - nought }
-{
-    if b < 48 { 0 } else { (b - 48) as u64 }
-}
-
-// The value with one digit more, as far as 64 bits hold it.
+// The value with one digit more, as far as 64 bits hold it: the largest number that they hold stands for every
+// larger one, since no field may be so large.
 fn and_digit(v: u64, b: u8) -> u64
     ensures { result ≡ capped (v * 10 + (b - nought)) }
 {
-    let d = worth(b);
-    if 1_844_674_407_370_955_161 < v {
-        return MOST;
-    }
-    let tens = v * 10;
-    if MOST - tens < d { MOST } else { tens + d }
+    let digit = b.saturating_sub(b'0');
+    v.saturating_mul(10).saturating_add(u64::from(digit))
 }
 
 // The value of digits, as far as 64 bits hold it.
 pub fn value_of(s: &[u8]) -> u64
     ensures { result ≡ capped (value s.now) }
 {
-    let mut v = 0;
-    let mut i = 0;
-    while i < s.len() {
-        v = and_digit(v, s[i]);
-        i += 1;
-    }
-    v
+    s.iter().fold(0, |v, b| and_digit(v, *b))
 }

@@ -9,11 +9,11 @@ returns-then-line-at c = field_none _ _ c.if-line-at.true
 pub slice_bounds-digits-end : goal.slice_bounds-digits-end
 slice_bounds-digits-end c = field_end _ _ c.if-line-at.false _ c.find-end.ensures
 
-pub returns-then-is_number : goal.returns-then-is_number
-returns-then-is_number c =
-    field_number _ _ c.if-line-at.false _ _ _ c.find-end.ensures c.is_number.ensures c.if-is_number.true
-    c.value_of.ensures
+pub returns-then-not-is_number : goal.returns-then-not-is_number
+returns-then-not-is_number c =
+    field_bad _ _ c.if-line-at.false _ _ c.find-end.ensures c.is_number.ensures c.if-not-is_number.true
 
-pub returns-else-is_number : goal.returns-else-is_number
-returns-else-is_number c =
-    field_bad _ _ c.if-line-at.false _ _ c.find-end.ensures c.is_number.ensures c.if-is_number.false
+pub returns : goal.returns
+returns c =
+    field_number _ _ c.if-line-at.false _ _ _ c.find-end.ensures c.is_number.ensures c.if-not-is_number.false
+    c.value_of-value.ensures

@@ -1,7 +1,7 @@
 -- `text_lines::line::said_by` meets its contract.
 -- Assumes nothing.
-use mathlib.Core.Path.{sym, ◌∙◌}
 use Rattle.text.specs.Rows.{contact_word, range_word}
+use Rattle.text_lines.proofs.BytesCode.{same_told}
 use Rattle.text_lines.proofs.LineCode.{word_end, word_length, said_bad, said_contact, said_range, said_other}
 use Rattle.text_lines.proofs.line.said_by.Goals as goal
 
@@ -15,23 +15,23 @@ returns-then-not-numbers c =
 pub slice_bounds-word-end : goal.slice_bounds-word-end
 slice_bounds-word-end c = word_length _ _ c.find-end.ensures
 
-pub returns-then-is_same : goal.returns-then-is_same
+pub returns-then-eq : goal.returns-then-eq
 unfolding contact_word
-returns-then-is_same c =
+returns-then-eq c =
     let good = c.if-not-numbers.false in
-    said_contact _ _ c.find-end.ensures _ c.numbers.ensures.0 good
-    _ _ (sym c.is_same.ensures ∙ c.if-is_same.true) (c.numbers.ensures.1 good) c.contact_row-c.ensures
+    said_contact _ _ c.find-end.ensures _ c.numbers.ensures.0 good _ _ (same_told _ _ c.eq.ensures c.if-eq.true)
+    (c.numbers.ensures.1 good) c.contact_row.ensures
 
-pub returns-then-is_same-2 : goal.returns-then-is_same-2
+pub returns-then-eq-2 : goal.returns-then-eq-2
 unfolding contact_word range_word
-returns-then-is_same-2 c =
+returns-then-eq-2 c =
     let good = c.if-not-numbers.false in
-    said_range _ _ c.find-end.ensures _ c.numbers.ensures.0 good _ _ (sym c.is_same.ensures ∙ c.if-is_same.false)
-    (sym c.is_same-2.ensures ∙ c.if-is_same-2.true) (c.numbers.ensures.1 good) c.range_row-r.ensures
+    said_range _ _ c.find-end.ensures _ c.numbers.ensures.0 good _ _ (same_told _ _ c.eq.ensures c.if-eq.false)
+    (same_told _ _ c.eq-2.ensures c.if-eq-2.true) (c.numbers.ensures.1 good) c.range_row.ensures
 
 pub returns : goal.returns
 unfolding contact_word range_word
 returns c =
     let good = c.if-not-numbers.false in
-    said_other _ _ c.find-end.ensures _ c.numbers.ensures.0 good (sym c.is_same.ensures ∙ c.if-is_same.false)
-    (sym c.is_same-2.ensures ∙ c.if-is_same-2.false)
+    said_other _ _ c.find-end.ensures _ c.numbers.ensures.0 good (same_told _ _ c.eq.ensures c.if-eq.false)
+    (same_told _ _ c.eq-2.ensures c.if-eq-2.false)

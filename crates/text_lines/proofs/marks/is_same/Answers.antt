@@ -1,19 +1,8 @@
--- `text_lines::marks::is_same` meets its contract. The loop's invariant: the two are the same where they are the same from place i on.
+-- `text_lines::marks::is_same` meets its contract.
 -- Assumes nothing.
-use mathlib.Core.Path.{sym, ◌∙◌}
-use Rattle.text_lines.proofs.BytesCode.{same_unlike, same_goes, same_stops, same_ends}
+use Rattle.std.proofs.Common.{◌∙◌}
+use Rattle.text_lines.proofs.BytesCode.{same_is}
 use Rattle.text_lines.proofs.marks.is_same.Goals as goal
 
-pub returns-then-a-b : goal.returns-then-a-b
-returns-then-a-b c = sym (same_unlike _ _ c.if-a-b.true)
-
-pub returns-then-a-i : goal.returns-then-a-i
-returns-then-a-i c =
-    sym (c.loop-i.invariant ∙ same_stops _ _ _ c.if-a-b.false c.loop-i-test.true c.if-a-i.true)
-
-pub loop-i-preserved : goal.loop-i-preserved
-loop-i-preserved c =
-    c.loop-i.invariant ∙ same_goes _ _ _ c.if-a-b.false c.loop-i-test.true c.if-a-i.false
-
 pub returns : goal.returns
-returns c = sym (c.loop-i.invariant ∙ same_ends _ _ _ c.if-a-b.false c.loop-i-test.false)
+returns c = c.eq.ensures ∙ same_is _ _

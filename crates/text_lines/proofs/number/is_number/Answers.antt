@@ -1,10 +1,14 @@
 -- `text_lines::number::is_number` meets its contract.
 -- Assumes nothing.
-use Rattle.text_lines.proofs.LineCode.{number_blank, number_by}
+use Rattle.std.proofs.Common.{◌∙◌}
+use Rattle.text_lines.proofs.BytesCode.{number_blank, number_lone, number_is}
 use Rattle.text_lines.proofs.number.is_number.Goals as goal
 
-pub returns-then-s-eq0 : goal.returns-then-s-eq0
-returns-then-s-eq0 c = number_blank _ c.if-s-eq0.true
+pub returns-in-Some-eq48 : goal.returns-in-Some-eq48
+returns-in-Some-eq48 c = number_lone _ _ c.in-Some-eq48.ensures.value c.in-Some-eq48.field-0-test
 
-pub returns : goal.returns
-returns c = number_by _ _ c.if-s-eq0.false c.are_digits.ensures
+pub returns-in-Some : goal.returns-in-Some
+returns-in-Some c = c.are_digits.ensures ∙ number_is _ _ c.in-Some.ensures.value c.in-Some.field-0-test.1
+
+pub returns-in-None : goal.returns-in-None
+returns-in-None c = number_blank _ c.in-None.ensures.value

@@ -1,19 +1,13 @@
--- `text_lines::number::value_of` meets its contract. The loop's invariant: the value is that of the digits from place i on, read on from v.
+-- `text_lines::number::value_of` meets its contract.
 -- Assumes nothing.
-use mathlib.Core.Path.{sym, ap, ◌∙◌}
-use Prim.Native.Nat.{ℕ, ◌+◌}
-use lib.ListN.{drop}
-use Rattle.text.specs.Model.{capped_from}
-use Rattle.text_lines.proofs.BytesCode.{value_all, value_goes, value_ends}
+use Rattle.std.proofs.Common.{◌≡◌, ◌∙◌, ◌+◌, ◌-◌, ◌*◌, rules}
+use Rattle.std.specs.List.{fold}
+use Rattle.text.specs.Digits.{nought}
+use Rattle.text.specs.Model.{capped}
+use Rattle.text_lines.proofs.BytesCode.{value_is}
 use Rattle.text_lines.proofs.number.value_of.Goals as goal
 
-pub loop-i-init : goal.loop-i-init
-loop-i-init c = value_all _
-
-pub loop-i-preserved : goal.loop-i-preserved
-loop-i-preserved c =
-    c.loop-i.invariant ∙ value_goes _ _ _ c.loop-i-test.true ∙ ap
-    (λ (w : ℕ). capped_from w (drop (c.loop-i.i + 1) c.args.s.now)) (sym c.and_digit-v.ensures)
-
 pub returns : goal.returns
-returns c = sym (c.loop-i.invariant ∙ value_ends _ _ _ c.loop-i-test.false)
+returns c =
+    let told : c.fold.result ≡ fold (λ w b. capped (w * 10 + (b - nought))) 0 c.args.s.now = search rules in
+    told ∙ value_is _
