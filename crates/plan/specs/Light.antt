@@ -6,7 +6,7 @@
 --     light_of            the same, as the code finds it. A reader of the promises may skip how: `light_has` of proofs/Ranging.antt says that it is the
 --                        light time that the contact has, for the ranges of a valid plan
 -- Assumes nothing.
-use Rattle.std.specs.Prelude.{Bool, true, false, ◌&&◌, ◌||◌, cond, List, [], ◌∷◌, ◌⊎◌, ◌≡◌, ℕ, ◌+◌, ◌-◌, ◌≤◌, ◌<◌, min, max, leb, eqb, Option, Some, None}
+use Rattle.std.specs.Prelude.{Bool, ◌&&◌, ◌||◌, cond, List, [], ◌∷◌, ◌⊎◌, ◌≡◌, ℕ, ◌+◌, ◌-◌, ◌≤◌, ◌<◌, min, max, leb, eqb, Option, Some, None}
 use Rattle.units.specs.declared.Millis.{Millis}
 use Rattle.plan.specs.Plan.{Each, SomeOf}
 use Rattle.plan.specs.declared.rows.Contact.{Contact}

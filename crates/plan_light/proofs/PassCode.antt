@@ -18,7 +18,7 @@ use lib.Seq.{get_or-set_same, get_or-set_other}
 use Rattle.plan.specs.declared.rows.Contact.{Contact}
 use Rattle.plan.specs.declared.rows.Range.{Range}
 use Rattle.plan.specs.declared.rows.Span.{Span}
-use Rattle.std.specs.Prelude.{Some, None}
+use Rattle.std.specs.Prelude.{None}
 use Rattle.plan.specs.Light.{light_of}
 use Rattle.plan.specs.Plan.{GoodContact, GoodRange}
 use Rattle.plan.specs.Tables.{range_at, rows_from}

@@ -3,5 +3,7 @@
 #![tactic(auto)]
 
 mod lights;
+mod lists;
 
 pub use lights::light_kept;
+pub use lists::RangeLists;

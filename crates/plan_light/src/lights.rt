@@ -9,31 +9,20 @@ ghost use Rattle.plan.specs.Tables.{words, range_at, rows_from};
 ghost use Rattle.plan_lists.specs.Lists.{LeastFrom, pair_slot, slot_at, InOrder};
 ghost use Rattle.plan_light.specs.Model.{pair_of, RangesLinked, RangesListed, Passed, Past, Kept};
 
+use crate::lists::RangeLists;
 use plan::{Contact, Range, Span, range_row};
 use plan_lists::{head_of, next_of};
-use units::{Millis, NodeNo};
-
-fn lesser(a: u64, b: u64) -> u64
-    ensures { result ≡ min a b }
-{
-    if a < b { a } else { b }
-}
-
-fn greater(a: u64, b: u64) -> u64
-    ensures { result ≡ max a b }
-{
-    if a < b { b } else { a }
-}
+use units::Millis;
 
 // The contact's pair, the lower node first: as the ranges have it.
 fn pair_of(c: Contact) -> Span
     ensures { result ≡ pair_of c }
 {
     Span {
-        start: Millis(c.start.0),
-        end: Millis(c.end.0),
-        one: NodeNo(lesser(c.from.0, c.to.0)),
-        other: NodeNo(greater(c.from.0, c.to.0)),
+        start: c.start,
+        end: c.end,
+        one: c.from.min(c.to),
+        other: c.from.max(c.to),
     }
 }
 
@@ -41,7 +30,7 @@ fn pair_of(c: Contact) -> Span
 fn is_joining(r: Range, pair: Span) -> bool
     ensures { result ≡ (eqb r.a.0 pair.one.0 && eqb r.b.0 pair.other.0) }
 {
-    (r.a.0 == pair.one.0) & (r.b.0 == pair.other.0)
+    (r.a == pair.one) & (r.b == pair.other)
 }
 
 // The milliseconds that a range shares with the contact, which is of that pair.
@@ -52,25 +41,19 @@ fn shared_by(r: Range, pair: Span, c: Contact) -> u64
     if !is_joining(r, pair) {
         return 0;
     }
-    let start = greater(r.start.0, c.start.0);
-    let end = lesser(r.end.0, c.end.0);
-    if end <= start {
-        return 0;
-    }
-    end - start
+    let start = r.start.max(c.start);
+    let end = r.end.min(c.end);
+    end.0.saturating_sub(start.0)
 }
 
 // The largest light time so far with that of one more range, which counts where it shares time.
-fn largest_with(light: u64, shared: u64, so_far: u64) -> u64
-    ensures { result ≡ cond (leb 1 shared) (max light so_far) so_far }
+fn largest_with(light: Millis, shared: u64, so_far: Millis) -> Millis
+    ensures { result.0 ≡ cond (leb 1 shared) (max light.0 so_far.0) so_far.0 }
 {
     if shared == 0 {
         return so_far;
     }
-    if light < so_far {
-        return so_far;
-    }
-    light
+    light.max(so_far)
 }
 
 // Whether the range covers all of the contact, which is of that pair.
@@ -78,10 +61,10 @@ fn is_covering(r: Range, pair: Span, c: Contact) -> bool
     requires { pair ≡ pair_of c }
     ensures { result ≡ true → Joins r c × (r.start.0 ≤ c.start.0) × (c.end.0 ≤ r.end.0) }
 {
-    if c.start.0 < r.start.0 {
+    if c.start < r.start {
         return false;
     }
-    if r.end.0 < c.end.0 {
+    if r.end < c.end {
         return false;
     }
     is_joining(r, pair)
@@ -94,71 +77,64 @@ fn is_behind(ordered: bool, r: Range, c: Contact) -> bool
     if !ordered {
         return false;
     }
-    c.end.0 <= r.start.0
+    c.end <= r.start
 }
 
 // The largest light time of the ranges that share time with the contact, or none where they do not
 // cover all of it: ranges of one pair do not overlap, so they cover it where no time is missing, and
 // then no other one shares time with it. Those before row `begin` share none.
-fn light_along(
-    ranges: &[u64],
-    range_count: usize,
-    nexts: &[u16],
-    ordered: bool,
-    begin: usize,
-    c: Contact,
-) -> Option<Millis>
-    requires { RangesLinked ranges.now range_count nexts.now × GoodContact c × Passed ranges.now range_count (pair_slot (pair_of c)) c.start.0 begin × (ordered ≡ true → InOrder ranges.now range_count nexts.now) }
-    ensures { result ≡ light_of (rows_from (range_at ranges.now) 0 range_count) c }
+fn light_along(lists: &RangeLists, begin: usize, c: Contact) -> Option<Millis>
+    requires { GoodContact c × Passed lists.now.ranges.now lists.now.range_count (pair_slot (pair_of c)) c.start.0 begin }
+    ensures { result ≡ light_of (rows_from (range_at lists.now.ranges.now) 0 lists.now.range_count) c }
 {
     let pair = pair_of(c);
     let mut missing = c.end.0 - c.start.0;
-    let mut light = 0;
+    let mut light = Millis(0);
     let mut j = begin;
-    while j < range_count {
-        let r = range_row(ranges, j);
-        if is_behind(ordered, r, c) {
+    while j < lists.range_count {
+        let r = range_row(lists.ranges, j);
+        if is_behind(lists.ordered, r, c) {
             return None;
         }
         let shared = shared_by(r, pair, c);
-        light = largest_with(r.light.0, shared, light);
+        light = largest_with(r.light, shared, light);
         missing -= shared;
         if missing == 0 {
-            return Some(Millis(light));
+            return Some(light);
         }
-        j = next_of(nexts, j);
+        j = next_of(lists.nexts, j);
     }
     None
 }
 
 // The last range of the list from row `begin` on that ends by the time, as the one in that row does.
-fn pass_over(ranges: &[u64], range_count: usize, nexts: &[u16], begin: usize, time: Millis) -> usize
-    requires { RangesLinked ranges.now range_count nexts.now × Past ranges.now range_count (slot_at ranges.now begin) time.0 begin }
-    ensures { Past ranges.now range_count (slot_at ranges.now begin) time.0 result }
+fn pass_over(lists: &RangeLists, begin: usize, time: Millis) -> usize
+    requires { Past lists.now.ranges.now lists.now.range_count (slot_at lists.now.ranges.now begin) time.0 begin }
+    ensures { Past lists.now.ranges.now lists.now.range_count (slot_at lists.now.ranges.now begin) time.0 result }
 {
     let mut j = begin;
-    let mut next = next_of(nexts, j);
-    while next < range_count {
-        if time.0 < range_row(ranges, next).end.0 {
+    let mut next = next_of(lists.nexts, j);
+    while next < lists.range_count {
+        if time < range_row(lists.ranges, next).end {
             return j;
         }
         j = next;
-        next = next_of(nexts, j);
+        next = next_of(lists.nexts, j);
     }
     j
 }
 
 // A range of the list of row `head` that ends by the time: the one kept beside it, if it does, or else the
 // one in row `head`, which does.
-fn begin_at(ranges: &[u64], range_count: usize, kept: &[u16], head: usize, time: Millis) -> usize
-    requires { (range_count * words ≤ length ranges.now) × Kept ranges.now range_count kept.now × Past ranges.now range_count (slot_at ranges.now head) time.0 head }
-    ensures { Past ranges.now range_count (slot_at ranges.now head) time.0 result }
+fn begin_at(lists: &RangeLists, kept: &[u16], head: usize, time: Millis) -> usize
+    requires { Kept lists.now.ranges.now lists.now.range_count kept.now × Past lists.now.ranges.now lists.now.range_count (slot_at lists.now.ranges.now head) time.0 head }
+    ensures { Past lists.now.ranges.now lists.now.range_count (slot_at lists.now.ranges.now head) time.0 result }
 {
-    let row = kept[head] as usize;
-    if range_count <= row {
+    let row = usize::from(kept[head]);
+    if lists.range_count <= row {
         return head;
     }
-    if time.0 < range_row(ranges, row).end.0 {
+    if time < range_row(lists.ranges, row).end {
         return head;
     }
     row
@@ -167,54 +143,37 @@ fn begin_at(ranges: &[u64], range_count: usize, kept: &[u16], head: usize, time:
 // The row that a walk begins at for a contact that starts at that time: behind ranges that ended by then,
 // where the ranges are in order, and the last one passed is kept beside the first row of the list; or
 // else that first row.
-fn open_row(
-    ranges: &[u64],
-    range_count: usize,
-    nexts: &[u16],
-    ordered: bool,
-    kept: &mut [u16],
-    head: usize,
-    time: Millis,
-) -> usize
-    requires { RangesLinked ranges.now range_count nexts.now × (ordered ≡ true → InOrder ranges.now range_count nexts.now) × Kept ranges.now range_count kept.old × (head < range_count) × LeastFrom (slot_at ranges.now) 0 range_count (slot_at ranges.now head) head }
-    ensures { Passed ranges.now range_count (slot_at ranges.now head) time.0 result × Kept ranges.now range_count kept.new × (length kept.new ≡ length kept.old) }
+fn open_row(lists: &RangeLists, kept: &mut [u16], head: usize, time: Millis) -> usize
+    requires { Kept lists.now.ranges.now lists.now.range_count kept.old × (head < lists.now.range_count) × LeastFrom (slot_at lists.now.ranges.now) 0 lists.now.range_count (slot_at lists.now.ranges.now head) head }
+    ensures { Passed lists.now.ranges.now lists.now.range_count (slot_at lists.now.ranges.now head) time.0 result × Kept lists.now.ranges.now lists.now.range_count kept.new }
 {
-    if !ordered {
+    if !lists.ordered {
         return head;
     }
-    if time.0 < range_row(ranges, head).end.0 {
+    if time < range_row(lists.ranges, head).end {
         return head;
     }
-    let begin = begin_at(ranges, range_count, kept, head, time);
-    let past = pass_over(ranges, range_count, nexts, begin, time);
+    let begin = begin_at(lists, kept, head, time);
+    let past = pass_over(lists, begin, time);
     kept[head] = past as u16;
-    next_of(nexts, past)
+    next_of(lists.nexts, past)
 }
 
 // The contact's light time: by the first range of its list alone, where that one covers all of the contact,
-// or else by a walk along the list. `ordered` says that the ranges are known to be in order.
-pub fn light_kept(
-    ranges: &[u64],
-    range_count: usize,
-    heads: &[u16],
-    nexts: &[u16],
-    ordered: bool,
-    kept: &mut [u16],
-    c: Contact,
-) -> Option<Millis>
-    requires { RangesListed ranges.now range_count heads.now nexts.now × (ordered ≡ true → InOrder ranges.now range_count nexts.now) × GoodContact c × Kept ranges.now range_count kept.old }
-    ensures { (result ≡ light_of (rows_from (range_at ranges.now) 0 range_count) c) × Kept ranges.now range_count kept.new × (length kept.new ≡ length kept.old) }
+// or else by a walk along the list.
+pub fn light_kept(lists: &RangeLists, kept: &mut [u16], c: Contact) -> Option<Millis>
+    requires { GoodContact c × Kept lists.now.ranges.now lists.now.range_count kept.old }
+    ensures { (result ≡ light_of (rows_from (range_at lists.now.ranges.now) 0 lists.now.range_count) c) × Kept lists.now.ranges.now lists.now.range_count kept.new }
 {
     let pair = pair_of(c);
-    let head = head_of(heads, pair);
-    if range_count <= head {
+    let head = head_of(lists.heads, pair);
+    if lists.range_count <= head {
         return None;
     }
-    let r = range_row(ranges, head);
+    let r = range_row(lists.ranges, head);
     if is_covering(r, pair, c) {
-        return Some(Millis(r.light.0));
+        return Some(r.light);
     }
-    let start = c.start;
-    let open = open_row(ranges, range_count, nexts, ordered, kept, head, start);
-    light_along(ranges, range_count, nexts, ordered, open, c)
+    let open = open_row(lists, kept, head, c.start);
+    light_along(lists, open, c)
 }

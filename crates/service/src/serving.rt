@@ -5,7 +5,6 @@ ghost use Rattle.plan.specs.Lent.{plan_in};
 ghost use Rattle.plan_lists.specs.Lists.{InOrder};
 ghost use Rattle.plan_lists.specs.Model.{slots, most_rows};
 ghost use Rattle.plan_light.specs.Model.{RangesListed, Kept};
-
 ghost use Rattle.service.specs.Held.{service_in};
 ghost use Rattle.service.specs.Model.{NoneKept};
 ghost use Rattle.service.specs.Service.{volume, service_of, unused, LightGood};
@@ -13,7 +12,7 @@ ghost use Rattle.service.specs.Tables.{light_word, served};
 
 use crate::tables::{ServedPlan, UNRANGED};
 use plan::{Contact, contact_row};
-use plan_light::light_kept;
+use plan_light::{RangeLists, light_kept};
 use plan_lists::{BLANK, MOST_ROWS, SLOTS, link};
 use plan_valid::CheckedPlan;
 use units::{MOST_CONTACTS, Millis};
@@ -41,28 +40,8 @@ fn word_of(light: Option<Millis>) -> u32
     }
 }
 
-// Fills the tables with the plan as it serves an ask, by the lists of its ranges.
-fn serve_along(
-    plan: &CheckedPlan,
-    heads: &[u16],
-    nexts: &[u16],
-    ordered: bool,
-    kept: &mut [u16],
-    lights: &mut [u32; MOST_CONTACTS],
-    lefts: &mut [u64; MOST_CONTACTS],
-)
-    requires { RangesListed plan.now.tables.ranges.now plan.now.tables.range_count heads.now nexts.now × Kept plan.now.tables.ranges.now plan.now.tables.range_count kept.old × (ordered ≡ true → InOrder plan.now.tables.ranges.now plan.now.tables.range_count nexts.now) }
-    ensures { served plan.now.tables.contacts.now plan.now.tables.contact_count lights.new lefts.new ≡ service_of (plan_in plan.now.tables) unused }
-{
-    for k in 0..plan.tables.contact_count {
-        let c = contact_row(plan.tables.contacts, k);
-        let light = light_kept(plan.tables.ranges, plan.tables.range_count, heads, nexts, ordered, kept, c);
-        lights[k] = word_of(light);
-        lefts[k] = volume_of(c);
-    }
-}
-
-// The same, with the lists made in the lent words.
+// Fills the tables with the plan as it serves an ask, by the lists of its ranges, which are made in the lent
+// words.
 fn serve_in(
     plan: &CheckedPlan,
     heads: &mut [u16],
@@ -75,7 +54,19 @@ fn serve_in(
     ensures { served plan.now.tables.contacts.now plan.now.tables.contact_count lights.new lefts.new ≡ service_of (plan_in plan.now.tables) unused }
 {
     let ordered = link(plan.tables.ranges, plan.tables.range_count, heads, nexts);
-    serve_along(plan, heads, nexts, ordered, kept, lights, lefts);
+    let lists = RangeLists {
+        ranges: plan.tables.ranges,
+        range_count: plan.tables.range_count,
+        heads,
+        nexts,
+        ordered,
+    };
+    for k in 0..plan.tables.contact_count {
+        let c = contact_row(plan.tables.contacts, k);
+        let light = light_kept(&lists, kept, c);
+        lights[k] = word_of(light);
+        lefts[k] = volume_of(c);
+    }
 }
 
 // Fills the tables with the plan as it serves an ask, where nothing is used. The lists have words of

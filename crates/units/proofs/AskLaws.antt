@@ -34,7 +34,13 @@ good_ask_says ask e =
 
 pub good_ask_passes : (ask : Ask) → GoodAsk ask → good_ask ask ≡ true
 good_ask_passes ask g =
-    rw (le-leb 1 ask.source.0 g.source_node.least, le-leb ask.source.0 most_nodes g.source_node.most,
-      le-leb 1 ask.destination.0 g.destination_node.least, le-leb ask.destination.0 most_nodes g.destination_node.most,
-      le-leb ask.time.0 last_time g.time_most, le-leb 1 ask.size g.size_least, le-leb ask.size most_size g.size_most,
-      le-leb ask.deadline.0 last_time g.deadline_most) refl
+    rw (
+      le-leb 1 ask.source.0 g.source_node.least,
+      le-leb ask.source.0 most_nodes g.source_node.most,
+      le-leb 1 ask.destination.0 g.destination_node.least,
+      le-leb ask.destination.0 most_nodes g.destination_node.most,
+      le-leb ask.time.0 last_time g.time_most,
+      le-leb 1 ask.size g.size_least,
+      le-leb ask.size most_size g.size_most,
+      le-leb ask.deadline.0 last_time g.deadline_most,
+    ) refl

@@ -6,60 +6,68 @@ use Rattle.plan_light.proofs.LightsCode.{walk_starts, walk_good, walk_stops, wal
 use Rattle.plan_light.proofs.lights.light_along.Goals as goal
 
 pub overflow_sub-missing : goal.overflow_sub-missing
-overflow_sub-missing c = omega (arith, c.requires.1.starts)
+overflow_sub-missing c = omega (arith, c.requires.0.starts)
 
 pub loop-j-init : goal.loop-j-init
 loop-j-init c =
     let pre = c.requires in
-    walk_starts _ _ _ _ pre.0 pre.1 _ pre.2
+    let rows = c.args.lists.now.listed.rows in
+    walk_starts _ _ _ _ rows pre.0 _ pre.1
 
 pub range_row-r-requires : goal.range_row-r-requires
-range_row-r-requires c = omega (arith, c.requires.0.lent)
+range_row-r-requires c = omega (arith, c.args.lists.now.listed.rows.lent)
 
 pub returns-then-is_behind : goal.returns-then-is_behind
 returns-then-is_behind c =
     let pre = c.requires in
+    let rows = c.args.lists.now.listed.rows in
     let behind = c.is_behind.ensures c.if-is_behind.true in
-    walk_stops _ _ _ _ pre.0 pre.1 _ _ _ c.loop-j.invariant c.loop-j-test.true _ c.range_row-r.ensures
-    (pre.3 behind.0) behind.1
+    walk_stops _ _ _ _ rows pre.0 _ _ _ c.loop-j.invariant c.loop-j-test.true _ c.range_row-r.ensures
+    (c.args.lists.now.in_order behind.0) behind.1
 
 pub shared_by-shared-requires : goal.shared_by-shared-requires
 shared_by-shared-requires c =
     let pre = c.requires in
+    let rows = c.args.lists.now.listed.rows in
     let inv = c.loop-j.invariant in (
-      walk_good _ _ _ _ pre.0 pre.1 _ _ _ inv c.loop-j-test.true _ c.range_row-r.ensures,
-      pre.1,
+      walk_good _ _ _ _ rows pre.0 _ _ _ inv c.loop-j-test.true _ c.range_row-r.ensures,
+      pre.0,
       c.pair_of-pair.ensures,
     )
 
 pub overflow_sub-missing-in-loop-j : goal.overflow_sub-missing-in-loop-j
 overflow_sub-missing-in-loop-j c =
     let pre = c.requires in
-    walk_room _ _ _ _ pre.0 pre.1 _ _ _ c.loop-j.invariant c.loop-j-test.true _ c.range_row-r.ensures _
+    let rows = c.args.lists.now.listed.rows in
+    walk_room _ _ _ _ rows pre.0 _ _ _ c.loop-j.invariant c.loop-j-test.true _ c.range_row-r.ensures _
     c.shared_by-shared.ensures
 
 pub returns-then-missing-eq0 : goal.returns-then-missing-eq0
 returns-then-missing-eq0 c =
     let pre = c.requires in
-    walk_found _ _ _ _ pre.0 pre.1 _ _ _ c.loop-j.invariant c.loop-j-test.true _ c.range_row-r.ensures _
+    let rows = c.args.lists.now.listed.rows in
+    walk_found _ _ _ _ rows pre.0 _ _ _ c.loop-j.invariant c.loop-j-test.true _ c.range_row-r.ensures _
     c.shared_by-shared.ensures _ c.largest_with-light.ensures c.if-missing-eq0.true
 
 pub next_of-j-requires : goal.next_of-j-requires
 next_of-j-requires c =
-    omega (arith, c.requires.0.a_row_each)
+    omega (arith, c.args.lists.now.listed.rows.a_row_each)
 
 pub loop-j-smaller : goal.loop-j-smaller
 loop-j-smaller c =
     let pre = c.requires in
-    omega (arith, next_later _ _ _ pre.0 _ _ c.loop-j-test.true c.next_of-j.ensures)
+    let rows = c.args.lists.now.listed.rows in
+    omega (arith, next_later _ _ _ rows _ _ c.loop-j-test.true c.next_of-j.ensures)
 
 pub loop-j-preserved : goal.loop-j-preserved
 loop-j-preserved c =
     let pre = c.requires in
-    walk_goes _ _ _ _ pre.0 pre.1 _ _ _ c.loop-j.invariant c.loop-j-test.true _ c.range_row-r.ensures _
+    let rows = c.args.lists.now.listed.rows in
+    walk_goes _ _ _ _ rows pre.0 _ _ _ c.loop-j.invariant c.loop-j-test.true _ c.range_row-r.ensures _
     c.shared_by-shared.ensures _ c.largest_with-light.ensures c.if-missing-eq0.false _ c.next_of-j.ensures
 
 pub returns : goal.returns
 returns c =
     let pre = c.requires in
-    walk_ends _ _ _ _ pre.0 pre.1 _ _ _ c.loop-j.invariant c.loop-j-test.false
+    let rows = c.args.lists.now.listed.rows in
+    walk_ends _ _ _ _ rows pre.0 _ _ _ c.loop-j.invariant c.loop-j-test.false

@@ -6,7 +6,7 @@ use Rattle.plan_light.proofs.LightsCode.{Walked}
 use Rattle.plan_light.proofs.lights.light_along.Given as goal
 
 abbrev pub invariant-loop-j : goal.invariant-loop-j
-invariant-loop-j l = Walked l.ranges l.range_count l.c l.missing l.light l.j
+invariant-loop-j l = Walked l.lists.ranges.now l.lists.range_count l.c l.missing l.light.0 l.j
 
 abbrev pub decreases-loop-j : goal.decreases-loop-j
-decreases-loop-j l = l.range_count - l.j
+decreases-loop-j l = l.lists.range_count - l.j

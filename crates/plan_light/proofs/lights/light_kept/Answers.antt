@@ -1,6 +1,6 @@
 -- `plan_light::lights::light_kept` meets its contract.
 -- Assumes nothing.
-use mathlib.Core.Path.{refl, sym, subst}
+use mathlib.Core.Path.{sym, subst}
 use Rattle.plan_lists.specs.Model.{IsPair}
 use Rattle.plan_light.proofs.LightsCode.{open_covers}
 use Rattle.plan_light.proofs.PassCode.{head_least, head_passed, head_open, head_none}
@@ -9,39 +9,32 @@ use Rattle.plan_light.proofs.lights.light_kept.Goals as goal
 
 pub head_of-head-requires : goal.head_of-head-requires
 head_of-head-requires c =
-    let pre = c.requires in
-    (subst IsPair (sym c.pair_of-pair.ensures) (pair_nodes _ pre.2), pre.0.a_slot_each)
+    (subst IsPair (sym c.pair_of-pair.ensures) (pair_nodes _ c.requires.0), c.args.lists.now.listed.a_slot_each)
 
-pub returns-then-range_count-head : goal.returns-then-range_count-head
-returns-then-range_count-head c =
+pub returns-then-lists-head : goal.returns-then-lists-head
+returns-then-lists-head c =
     let pre = c.requires in
-    (head_none _ _ _ _ _ pre.0 pre.2 _ c.pair_of-pair.ensures _ c.head_of-head.ensures c.if-range_count-head.true, pre.3, refl)
+    (head_none _ _ _ _ _ c.args.lists.now.listed pre.0 _ c.pair_of-pair.ensures _ c.head_of-head.ensures c.if-lists-head.true, pre.1)
 
 pub returns-then-is_covering : goal.returns-then-is_covering
 returns-then-is_covering c =
     let pre = c.requires in
-    let first = head_passed _ _ _ _ _ pre.0 pre.2 _ c.pair_of-pair.ensures _ c.head_of-head.ensures in
-    let covers = c.is_covering.ensures c.if-is_covering.true in (
-      open_covers _ _ _ _ pre.0.rows pre.2 _ first c.if-range_count-head.false _ c.range_row-r.ensures covers.0 covers.1 covers.2,
-      pre.3,
-      refl,
-    )
+    let listed = c.args.lists.now.listed in
+    let first = head_passed _ _ _ _ _ listed pre.0 _ c.pair_of-pair.ensures _ c.head_of-head.ensures in
+    let covers = c.is_covering.ensures c.if-is_covering.true in
+    (open_covers _ _ _ _ listed.rows pre.0 _ first c.if-lists-head.false _ c.range_row-r.ensures covers.0 covers.1 covers.2, pre.1)
 
 pub open_row-open-requires : goal.open_row-open-requires
 open_row-open-requires c =
     let pre = c.requires in (
-      pre.0.rows,
       pre.1,
-      pre.3,
-      c.if-range_count-head.false,
-      head_least _ _ _ _ _ pre.0 pre.2 _ c.pair_of-pair.ensures _ c.head_of-head.ensures c.if-range_count-head.false,
+      c.if-lists-head.false,
+      head_least _ _ _ _ _ c.args.lists.now.listed pre.0 _ c.pair_of-pair.ensures _ c.head_of-head.ensures c.if-lists-head.false,
     )
 
 pub light_along-requires : goal.light_along-requires
 light_along-requires c =
     let pre = c.requires in (
-      pre.0.rows,
-      pre.2,
-      head_open _ _ _ _ _ pre.0 pre.2 _ c.pair_of-pair.ensures _ c.head_of-head.ensures c.if-range_count-head.false _ c.open_row-open.ensures.0,
-      pre.1,
+      pre.0,
+      head_open _ _ _ _ _ c.args.lists.now.listed pre.0 _ c.pair_of-pair.ensures _ c.head_of-head.ensures c.if-lists-head.false _ c.open_row-open.ensures.0,
     )

@@ -1,38 +1,34 @@
 -- `plan_light::lights::open_row` meets its contract.
 -- Assumes nothing.
 use mathlib.Core.Path.{refl}
+use Rattle.std.proofs.Common.{rules}
 use native.Mathlib.Omega.{arith}
-use lib.ListN.{length-set}
 use Rattle.plan_lists.specs.Model.{most_rows}
 use Rattle.plan_light.proofs.PassCode.{past_at, past_again, passed_first, passed_behind, kept_more}
 use Rattle.plan_light.proofs.lights.open_row.Goals as goal
 
-pub returns-then-not-ordered : goal.returns-then-not-ordered
-returns-then-not-ordered c =
+pub returns-then-not-lists : goal.returns-then-not-lists
+returns-then-not-lists c =
     let pre = c.requires in
-    (passed_first _ _ _ _ _ pre.4, pre.2, refl)
+    (passed_first _ _ _ _ _ pre.2, pre.0)
 
-pub returns-then-time-range_row : goal.returns-then-time-range_row
-returns-then-time-range_row c =
+pub returns-then-lt : goal.returns-then-lt
+returns-then-lt c =
     let pre = c.requires in
-    (passed_first _ _ _ _ _ pre.4, pre.2, refl)
+    (passed_first _ _ _ _ _ pre.2, pre.0)
 
 pub begin_at-begin-requires : goal.begin_at-begin-requires
 begin_at-begin-requires c =
     let pre = c.requires in
-    (pre.0.lent, pre.2, past_at _ _ _ _ _ pre.3 refl _ c.range_row.ensures c.if-time-range_row.false)
+    (pre.0, past_at _ _ _ _ _ pre.1 refl _ c.range_row.ensures (search rules))
 
 pub overflow_cast-kept : goal.overflow_cast-kept
 unfolding most_rows
-overflow_cast-kept c =
-    let pre = c.requires in
-    omega (arith, c.pass_over-past.ensures.below, pre.0.few)
+overflow_cast-kept c = omega (arith, c.pass_over-past.ensures.below, c.args.lists.now.listed.rows.few)
 
 pub returns : goal.returns
 returns c =
     let pre = c.requires in
-    let past = past_again _ _ _ _ _ _ c.begin_at-begin.ensures c.pass_over-past.ensures in (
-      passed_behind _ _ _ pre.0 (pre.1 c.if-not-ordered.false) _ _ _ past _ c.next_of.ensures,
-      kept_more _ _ _ pre.2 _ _ pre.3 past.has,
-      simp length-set refl,
-    )
+    let lists = c.args.lists.now in
+    let past = past_again _ _ _ _ _ _ c.begin_at-begin.ensures c.pass_over-past.ensures in
+    (passed_behind _ _ _ lists.listed.rows (lists.in_order c.if-not-lists.false) _ _ _ past _ c.next_of.ensures, kept_more _ _ _ pre.0 _ _ pre.1 past.has)

@@ -8,7 +8,7 @@ use Rattle.plan_light.specs.Model.{Past}
 use Rattle.plan_light.proofs.lights.pass_over.Given as goal
 
 abbrev pub invariant-loop-next : goal.invariant-loop-next
-invariant-loop-next l = Past l.ranges l.range_count (slot_at l.ranges l.begin) l.time.0 l.j × (l.next ≡ get_or l.nexts l.j 0)
+invariant-loop-next l = Past l.lists.ranges.now l.lists.range_count (slot_at l.lists.ranges.now l.begin) l.time.0 l.j × (l.next ≡ get_or l.lists.nexts.now l.j 0)
 
 abbrev pub decreases-loop-next : goal.decreases-loop-next
-decreases-loop-next l = l.range_count - l.j
+decreases-loop-next l = l.lists.range_count - l.j
