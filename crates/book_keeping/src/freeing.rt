@@ -9,7 +9,7 @@ use book::{FREE, PLACE_WORDS, mark_of};
 use units::MOST_PLACES;
 
 // The lowest free place, counted from 0, or nothing where all are open.
-#[tactic(auto, unfolding(units::specs::Limits::most_places))]
+#[tactic(auto, unfolding(units::specs::Limits::most_places, crate::specs::Keeping::AllOpen))]
 pub fn lowest_free(book: &[u64]) -> Option<usize>
     requires { most_places * place_words ≤ length book.now }
     ensures { FreePlace book.now result }
@@ -23,6 +23,7 @@ pub fn lowest_free(book: &[u64]) -> Option<usize>
 }
 
 // Marks place k as free.
+#[tactic(auto, using(crate::proofs::PlaceStores::freed_set))]
 pub fn free(book: &mut [u64], k: usize)
     requires { k * place_words + place_words ≤ length book.old }
     ensures { book.new ≡ freed book.old k }
