@@ -48,12 +48,9 @@ impl<'a> Book<'a> {
         requires { self.contact_count ≤ length lefts.old }
         ensures { Spent (used (book_of self.entry.places.now self.entry.chains.now) class) lefts.old lefts.new }
     {
+        let Book { places, chains, .. } = self;
         for k in 0..MOST_PLACES {
-            let place = Place {
-                places: self.places,
-                chains: self.chains,
-                k,
-            };
+            let place = Place { places, chains, k };
             if place.mark() == OPEN {
                 if let Some(booking) = place.booking() {
                     booking.spend(class, lefts);
