@@ -31,7 +31,7 @@ use Rattle.service.specs.Tables.{light_at, served}
 use Rattle.timing.specs.Hop.{is_barred}
 use Rattle.timing.specs.Model.{over_contact}
 use Rattle.service.proofs.Bounded.{light_good, contact_good}
-use Rattle.timing.proofs.ChainCode.{length_served, contact_lent, light_lent, named_in_plan}
+use Rattle.service.proofs.HeldLaws.{length_served, contact_lent, light_lent, named_in_plan}
 use Rattle.timing.proofs.HopLaws.{hop_bounded}
 use Rattle.walk_cause.specs.Model.{judged_hop, judged_named, judged, cause_from}
 use Rattle.walk_cause.proofs.CauseLaws.{judged_passes}

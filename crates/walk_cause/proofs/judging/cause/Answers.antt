@@ -2,7 +2,7 @@
 -- Assumes nothing.
 use mathlib.Core.Path.{refl, sym, ◌∙◌}
 use native.Mathlib.Omega.{arith}
-use Rattle.timing.proofs.ChainCode.{named_at_most}
+use Rattle.service.proofs.HeldLaws.{named_at_most}
 use Rattle.walk_cause.specs.Model.{cause_of}
 use Rattle.walk_cause.proofs.CauseCode.{judged_in_plan, judged_bounded, cause_stops, cause_ends, cause_lent}
 use Rattle.walk_cause.proofs.judging.cause.Goals as goal

@@ -1,7 +1,7 @@
 -- `walk_cause::judging::judge_hop` meets its contract.
 -- Assumes nothing.
 use native.Mathlib.Omega.{arith}
-use Rattle.timing.proofs.ChainCode.{named_at_most}
+use Rattle.service.proofs.HeldLaws.{named_at_most}
 use Rattle.walk_cause.proofs.CauseCode.{hop_unranged, hop_unfit, hop_good}
 use Rattle.walk_cause.proofs.judging.judge_hop.Goals as goal
 

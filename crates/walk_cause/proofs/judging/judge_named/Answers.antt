@@ -3,7 +3,8 @@
 use mathlib.Core.Path.{sym, subst}
 use native.Mathlib.Omega.{arith}
 use Rattle.plan.specs.Plan.{GoodContact}
-use Rattle.timing.proofs.ChainCode.{named_at_most, named_good}
+use Rattle.service.proofs.HeldLaws.{named_at_most}
+use Rattle.timing.proofs.ChainCode.{named_good}
 use Rattle.walk_cause.proofs.CauseCode.{named_apart, named_barred, named_hops}
 use Rattle.walk_cause.proofs.judging.judge_named.Goals as goal
 
