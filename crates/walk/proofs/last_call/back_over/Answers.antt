@@ -4,7 +4,8 @@ use mathlib.Core.Path.{sym, subst}
 use native.Mathlib.Omega.{arith}
 use Rattle.plan.specs.Plan.{GoodContact}
 use Rattle.service.specs.Service.{LightGood}
-use Rattle.timing.proofs.ChainCode.{named_at_most, named_good, light_named}
+use Rattle.service.proofs.HeldLaws.{named_at_most}
+use Rattle.timing.proofs.ChainCode.{named_good, light_named}
 use Rattle.walk.proofs.LastCallCode.{back_lent}
 use Rattle.walk.proofs.last_call.back_over.Goals as goal
 

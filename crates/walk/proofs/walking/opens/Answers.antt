@@ -2,7 +2,7 @@
 -- Assumes nothing.
 use native.Mathlib.Omega.{arith}
 use Rattle.plan.specs.Plan.{Each}
-use Rattle.timing.proofs.ChainCode.{named_at_most}
+use Rattle.service.proofs.HeldLaws.{named_at_most}
 use Rattle.walk.proofs.WalkCode.{opens_lent}
 use Rattle.walk.proofs.walking.opens.Goals as goal
 
