@@ -18,7 +18,8 @@ pub const FREE: u64 = 0;
 // The mark of a place that is open.
 pub const OPEN: u64 = 1;
 
-// The mark of place k, counted from 0.
+// The mark of place k, counted from 0. This and `is_open` ask only that its words are there, since tables
+// are read so that are not known as a book.
 pub fn mark_of(book: &[u64], k: usize) -> u64
     requires { k * place_words + place_words ≤ length book.now }
     ensures { result ≡ mark_at book.now k }
