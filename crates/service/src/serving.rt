@@ -1,5 +1,5 @@
 // A plan made ready to serve: each contact's light time and its volume, worked out once.
-ghost use Rattle.std.specs.Prelude.{true, ◌≡◌, ◌≤◌, length};
+ghost use Rattle.std.specs.Prelude.{◌≡◌, ◌≤◌, length};
 ghost use Rattle.plan.specs.Plan.{GoodContact};
 ghost use Rattle.plan.specs.Lent.{plan_in};
 ghost use Rattle.plan_lists.specs.Lists.{InOrder};
@@ -15,7 +15,7 @@ use plan::{Contact, contact_row};
 use plan_light::{RangeLists, light_kept};
 use plan_lists::{BLANK, MOST_ROWS, SLOTS, link};
 use plan_valid::CheckedPlan;
-use units::{MOST_CONTACTS, Millis};
+use units::Millis;
 
 // A row that no table has: none is kept yet. Its bytes are not all the same, so that an array of it is
 // filled word by word and not byte by byte.
@@ -47,10 +47,10 @@ fn serve_in(
     heads: &mut [u16],
     nexts: &mut [u16],
     kept: &mut [u16],
-    lights: &mut [u32; MOST_CONTACTS],
-    lefts: &mut [u64; MOST_CONTACTS],
+    lights: &mut [u32],
+    lefts: &mut [u64],
 )
-    requires { (length heads.old ≡ slots) × (most_rows ≤ length nexts.old) × NoneKept kept.old }
+    requires { (length heads.old ≡ slots) × (most_rows ≤ length nexts.old) × NoneKept kept.old × (plan.now.tables.contact_count ≤ length lights.old) × (plan.now.tables.contact_count ≤ length lefts.old) }
     ensures { served plan.now.tables.contacts.now plan.now.tables.contact_count lights.new lefts.new ≡ service_of (plan_in plan.now.tables) unused }
 {
     let ordered = link(plan.tables.ranges, plan.tables.range_count, heads, nexts);
@@ -71,11 +71,8 @@ fn serve_in(
 
 // Fills the tables with the plan as it serves an ask, where nothing is used. The lists have words of
 // their own, and so has what is kept along them: nothing yet.
-pub fn serve(
-    plan: &CheckedPlan,
-    lights: &mut [u32; MOST_CONTACTS],
-    lefts: &mut [u64; MOST_CONTACTS],
-)
+pub fn serve(plan: &CheckedPlan, lights: &mut [u32], lefts: &mut [u64])
+    requires { (plan.now.tables.contact_count ≤ length lights.old) × (plan.now.tables.contact_count ≤ length lefts.old) }
     ensures { served plan.now.tables.contacts.now plan.now.tables.contact_count lights.new lefts.new ≡ service_of (plan_in plan.now.tables) unused }
 {
     let mut heads = [BLANK; SLOTS];
@@ -88,9 +85,10 @@ impl<'a> ServedPlan<'a> {
     // The plan as it serves an ask where nothing is booked, by way of the tables lent.
     pub fn unbooked(
         plan: &CheckedPlan<'a>,
-        lights: &'a mut [u32; MOST_CONTACTS],
-        lefts: &'a mut [u64; MOST_CONTACTS],
+        lights: &'a mut [u32],
+        lefts: &'a mut [u64],
     ) -> ServedPlan<'a>
+        requires { (plan.now.tables.contact_count ≤ length lights.old) × (plan.now.tables.contact_count ≤ length lefts.old) }
         ensures { service_in result ≡ service_of (plan_in plan.now.tables) unused }
     {
         serve(plan, lights, lefts);

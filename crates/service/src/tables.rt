@@ -1,11 +1,11 @@
 // What stands beside the contacts: a table of light times and one of the bytes that are left, and the struct
 // that keeps the three tables together and reads them.
-ghost use Rattle.std.specs.Prelude.{◌≡◌};
+ghost use Rattle.std.specs.Prelude.{◌≡◌, ◌-◌, ◌≤◌, length};
 ghost use Rattle.plan.specs.Plan.{GoodContact};
 ghost use Rattle.plan.specs.Props.{good_contact_prop};
 ghost use Rattle.service.specs.Service.{LightGood};
 ghost use Rattle.service.specs.SoundProp.{is_service_prop, light_good_prop};
-ghost use Rattle.service.specs.Tables.{light_word, IsService};
+ghost use Rattle.service.specs.Tables.{light_word, light_at, left_at, IsService};
 
 use plan::{Contact, contact_numbered};
 use units::{ContactNo, Millis};
@@ -50,8 +50,24 @@ fn light_of(word: u32) -> Option<Millis>
     }
 }
 
+// The light time of the contact of that number, or none.
+pub fn light_numbered(lights: &[u32], no: ContactNo) -> Option<Millis>
+    requires { (1 ≤ no.0) × (no.0 ≤ length lights.now) }
+    ensures { result ≡ light_at lights.now (no.0 - 1) }
+{
+    light_of(lights[(no.0 - 1) as usize])
+}
+
+// The bytes that are left on the contact of that number.
+pub fn left_numbered(lefts: &[u64], no: ContactNo) -> u64
+    requires { (1 ≤ no.0) × (no.0 ≤ length lefts.now) }
+    ensures { result ≡ left_at lefts.now (no.0 - 1) }
+{
+    lefts[(no.0 - 1) as usize]
+}
+
 impl<'a> ServedPlan<'a> {
-    ghost use Rattle.std.specs.Prelude.{◌&&◌, leb, length};
+    ghost use Rattle.std.specs.Prelude.{◌&&◌, leb};
     ghost use Rattle.service.specs.Service.{InPlan, contact_of, light_in, left_in};
     ghost use Rattle.service.specs.Held.{service_in};
 
@@ -78,11 +94,10 @@ impl<'a> ServedPlan<'a> {
         ensures light { result.light ≡ light_in (service_in self.now) no.0 }
         ensures left { result.left ≡ left_in (service_in self.now) no.0 }
     {
-        let row = (no.0 - 1) as usize;
         Pass {
             contact: self.contact(no),
-            light: light_of(self.lights[row]),
-            left: self.lefts[row],
+            light: light_numbered(self.lights, no),
+            left: left_numbered(self.lefts, no),
         }
     }
 }

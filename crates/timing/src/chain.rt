@@ -1,6 +1,6 @@
 // A chain of contacts, and when it delivers.
 ghost use Rattle.std.specs.Prelude.{◌≡◌, ◌+◌, ◌≤◌};
-ghost use Rattle.units.specs.Limits.{IsNode, last_time, most_light};
+ghost use Rattle.units.specs.Limits.{IsNode, most_size, last_time, most_light};
 ghost use Rattle.plan.specs.Plan.{GoodContact};
 ghost use Rattle.service.specs.Held.{service_in};
 ghost use Rattle.service.specs.Service.{InPlan};
@@ -10,7 +10,7 @@ ghost use Rattle.timing.specs.Model.{goes_on, over_contact, step_over, delivery_
 use crate::hop::hop_over;
 use plan::Contact;
 use service::ServedPlan;
-use units::{Ask, CheckedAsk, ContactNo, Millis, NodeNo};
+use units::{Ask, ContactNo, Millis, NodeNo};
 
 // Whether the node is among the excluded neighbours: bit n - 1 of the number is for node n.
 fn is_excluded(excluded: u64, n: NodeNo) -> bool
@@ -32,23 +32,23 @@ pub fn is_barred(ask: Ask, c: Contact) -> bool
 
 // Whether the number names a contact of the plan that is from that node and not barred.
 #[tactic(auto, unfolding(crate::specs::Model::goes_on))]
-fn goes_on(service: &ServedPlan, ask: CheckedAsk, node: NodeNo, no: ContactNo) -> bool
-    ensures { result ≡ goes_on (service_in service.now) ask.asked node.0 no.0 }
+fn goes_on(service: &ServedPlan, ask: Ask, node: NodeNo, no: ContactNo) -> bool
+    ensures { result ≡ goes_on (service_in service.now) ask node.0 no.0 }
 {
     if !service.has(no) {
         return false;
     }
     let c = service.contact(no);
-    (c.from == node) & !is_barred(ask.asked, c)
+    (c.from == node) & !is_barred(ask, c)
 }
 
 // When the file is ready behind the contact of that number, if it is ready before it at `ready`.
 #[tactic(auto, unfolding(crate::specs::Model::over_contact))]
-pub fn over(service: &ServedPlan, ask: CheckedAsk, no: ContactNo, ready: Millis) -> Option<Millis>
-    requires { InPlan (service_in service.now) no.0 × (ready.0 ≤ last_time + most_light) }
-    ensures { result ≡ over_contact (service_in service.now) ask.asked no.0 ready.0 }
+pub fn over(service: &ServedPlan, ask: Ask, no: ContactNo, ready: Millis) -> Option<Millis>
+    requires { InPlan (service_in service.now) no.0 × (ask.size ≤ most_size) × (ready.0 ≤ last_time + most_light) }
+    ensures { result ≡ over_contact (service_in service.now) ask no.0 ready.0 }
 {
-    hop_over(service.pass(no), ask.asked.size, ready)
+    hop_over(service.pass(no), ask.size, ready)
 }
 
 // When the file, ready at `node` at `ready`, is ready behind the contact of that number: never where
@@ -56,13 +56,13 @@ pub fn over(service: &ServedPlan, ask: CheckedAsk, no: ContactNo, ready: Millis)
 #[tactic(auto, unfolding(crate::specs::Model::step_over))]
 pub fn step(
     service: &ServedPlan,
-    ask: CheckedAsk,
+    ask: Ask,
     node: NodeNo,
     ready: Millis,
     no: ContactNo,
 ) -> Option<Millis>
-    requires { ready.0 ≤ last_time + most_light }
-    ensures { result ≡ step_over (service_in service.now) ask.asked node.0 ready.0 no.0 }
+    requires { (ask.size ≤ most_size) × (ready.0 ≤ last_time + most_light) }
+    ensures { result ≡ step_over (service_in service.now) ask node.0 ready.0 no.0 }
 {
     if goes_on(service, ask, node, no) {
         over(service, ask, no, ready)
@@ -73,17 +73,18 @@ pub fn step(
 
 // When the chain delivers the file, or never where it is not allowed. Between two different nodes
 // the empty chain carries nothing.
-pub fn delivery(service: &ServedPlan, ask: CheckedAsk, chain: &[u64]) -> Option<Millis>
-    ensures { result ≡ delivery_of (service_in service.now) ask.asked chain.now }
+pub fn delivery(service: &ServedPlan, ask: Ask, chain: &[u64]) -> Option<Millis>
+    requires { (ask.size ≤ most_size) × (ask.time.0 ≤ last_time) }
+    ensures { result ≡ delivery_of (service_in service.now) ask chain.now }
 {
-    let mut node = ask.asked.source;
-    let mut ready = ask.asked.time;
+    let mut node = ask.source;
+    let mut ready = ask.time;
     for number in chain {
         let no = ContactNo(*number);
         ready = step(service, ask, node, ready, no)?;
         node = service.contact(no).to;
     }
-    if node == ask.asked.destination {
+    if node == ask.destination {
         Some(ready)
     } else {
         None

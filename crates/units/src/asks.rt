@@ -3,7 +3,7 @@ ghost use Rattle.std.specs.Prelude.{◌≡◌};
 ghost use Rattle.units.specs.Asks.{GoodAsk};
 ghost use Rattle.units.specs.Model.{good_ask};
 
-use crate::{Ask, LAST_TIME, MOST_SIZE, Refusal, is_node};
+use crate::{Ask, LAST_TIME, MOST_SIZE, is_node};
 
 // Whether every value of the ask is in its range.
 #[tactic(auto, unfolding(crate::specs::Limits::last_time, crate::specs::Limits::most_size))]
@@ -18,27 +18,24 @@ pub fn is_good_ask(ask: Ask) -> bool
         & (ask.deadline.0 <= LAST_TIME)
 }
 
-// An ask with every value in its range, between two different nodes.
+// An ask with every value in its range.
 #[derive(Clone, Copy)]
 pub struct CheckedAsk {
     pub asked: Ask,
     pub ghost good: { GoodAsk asked },
-    pub ghost differ: { asked.source.0 ≡ asked.destination.0 → ⊥ },
 }
 
 impl CheckedAsk {
-    ghost use Rattle.units.specs.Checked.{ChecksAsk};
+    ghost use Rattle.std.specs.Prelude.{MatchOption};
 
-    // The ask as a checked one, or why it is refused: its values first.
-    pub fn of(ask: Ask) -> Result<CheckedAsk, Refusal>
-        ensures { ChecksAsk ask result }
+    // The ask as a checked one, or nothing where a value is out of its range.
+    pub fn of(ask: Ask) -> Option<CheckedAsk>
+        ensures { MatchOption result (GoodAsk ask → ⊥) (λ c. c.asked ≡ ask) }
     {
-        if !is_good_ask(ask) {
-            return Err(Refusal::AskValue);
+        if is_good_ask(ask) {
+            Some(CheckedAsk { asked: ask })
+        } else {
+            None
         }
-        if ask.source == ask.destination {
-            return Err(Refusal::SameNode);
-        }
-        Ok(CheckedAsk { asked: ask })
     }
 }

@@ -1,31 +1,31 @@
 // Why a chain is turned down: its first contact at fault, and the lowest of that contact's faults.
 ghost use Rattle.std.specs.Prelude.{◌≡◌, ◌+◌, ◌≤◌};
-ghost use Rattle.units.specs.Limits.{last_time, most_light};
+ghost use Rattle.units.specs.Limits.{most_size, last_time, most_light};
 ghost use Rattle.service.specs.Held.{service_in};
 ghost use Rattle.service.specs.Service.{InPlan};
 ghost use Rattle.walk_cause.specs.Model.{judged_hop, judged_named, judged, cause_of};
 
 use service::ServedPlan;
 use timing::{hop_over, is_barred};
-use units::{CheckedAsk, ContactNo, Millis, NodeNo, Refusal};
+use units::{Ask, ContactNo, Millis, NodeNo, Refusal};
 
 // The last two tests: the contact is ranged, and the file fits.
 #[tactic(auto, unfolding(crate::specs::Model::judged_hop, timing::specs::Model::over_contact))]
 fn judge_hop(
     service: &ServedPlan,
-    ask: CheckedAsk,
+    ask: Ask,
     ready: Millis,
     no: ContactNo,
     position: u64,
 ) -> Result<Millis, Refusal>
-    requires { InPlan (service_in service.now) no.0 × (ready.0 ≤ last_time + most_light) }
-    ensures { result ≡ judged_hop (service_in service.now) ask.asked ready.0 position no.0 }
+    requires { InPlan (service_in service.now) no.0 × (ask.size ≤ most_size) × (ready.0 ≤ last_time + most_light) }
+    ensures { result ≡ judged_hop (service_in service.now) ask ready.0 position no.0 }
 {
     let pass = service.pass(no);
     if pass.light.is_none() {
         return Err(Refusal::NotRanged(position));
     }
-    hop_over(pass, ask.asked.size, ready).ok_or(Refusal::NotFitting(position))
+    hop_over(pass, ask.size, ready).ok_or(Refusal::NotFitting(position))
 }
 
 // The tests of a number that names a contact: it is from the node where the file is, and does not go
@@ -33,20 +33,20 @@ fn judge_hop(
 #[tactic(auto, unfolding(crate::specs::Model::judged_named))]
 fn judge_named(
     service: &ServedPlan,
-    ask: CheckedAsk,
+    ask: Ask,
     node: NodeNo,
     ready: Millis,
     no: ContactNo,
     position: u64,
 ) -> Result<Millis, Refusal>
-    requires { InPlan (service_in service.now) no.0 × (ready.0 ≤ last_time + most_light) }
-    ensures { result ≡ judged_named (service_in service.now) ask.asked node.0 ready.0 position no.0 }
+    requires { InPlan (service_in service.now) no.0 × (ask.size ≤ most_size) × (ready.0 ≤ last_time + most_light) }
+    ensures { result ≡ judged_named (service_in service.now) ask node.0 ready.0 position no.0 }
 {
     let c = service.contact(no);
     if c.from != node {
         return Err(Refusal::NotJoined(position));
     }
-    if is_barred(ask.asked, c) {
+    if is_barred(ask, c) {
         return Err(Refusal::ExcludedNode(position));
     }
     judge_hop(service, ask, ready, no, position)
@@ -57,14 +57,14 @@ fn judge_named(
 #[tactic(auto, unfolding(crate::specs::Model::judged))]
 fn judge(
     service: &ServedPlan,
-    ask: CheckedAsk,
+    ask: Ask,
     node: NodeNo,
     ready: Millis,
     no: ContactNo,
     position: u64,
 ) -> Result<Millis, Refusal>
-    requires { ready.0 ≤ last_time + most_light }
-    ensures { result ≡ judged (service_in service.now) ask.asked node.0 ready.0 position no.0 }
+    requires { (ask.size ≤ most_size) × (ready.0 ≤ last_time + most_light) }
+    ensures { result ≡ judged (service_in service.now) ask node.0 ready.0 position no.0 }
 {
     if !service.has(no) {
         return Err(Refusal::NoContact(position));
@@ -74,11 +74,12 @@ fn judge(
 
 // The fault of the first contact that has one, with its position counted from 1; where every contact
 // is good, that the chain ends elsewhere, with its length.
-pub fn cause(service: &ServedPlan, ask: CheckedAsk, chain: &[u64]) -> Refusal
-    ensures { result ≡ cause_of (service_in service.now) ask.asked chain.now }
+pub fn cause(service: &ServedPlan, ask: Ask, chain: &[u64]) -> Refusal
+    requires { (ask.size ≤ most_size) × (ask.time.0 ≤ last_time) }
+    ensures { result ≡ cause_of (service_in service.now) ask chain.now }
 {
-    let mut node = ask.asked.source;
-    let mut ready = ask.asked.time;
+    let mut node = ask.source;
+    let mut ready = ask.time;
     for (i, number) in chain.iter().enumerate() {
         let no = ContactNo(*number);
         match judge(service, ask, node, ready, no, i as u64 + 1) {

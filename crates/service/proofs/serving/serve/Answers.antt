@@ -7,4 +7,4 @@ use Rattle.service.proofs.serving.serve.Goals as goal
 
 pub serve_in-requires : goal.serve_in-requires
 unfolding slots most_rows
-serve_in-requires c = (omega arith, omega arith, none_kept _ (omega arith))
+serve_in-requires c = (omega arith, omega arith, none_kept _ (omega arith), c.requires.0, c.requires.1)

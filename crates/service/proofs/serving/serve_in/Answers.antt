@@ -52,8 +52,8 @@ loop-k-preserved c =
     let inv = c.loop-k.invariant in
     let told = c.light_kept-light.ensures in
     let few = contacts_counted _ _ _ _ c.args.plan.now.valid in
-    let lights_room : c.loop-k.k < length c.loop-k.lights = omega (arith, c.loop-k-test.true, few, c.fits-lights) in
-    let lefts_room : c.loop-k.k < length c.loop-k.lefts = omega (arith, c.loop-k-test.true, few, c.fits-lefts) in
+    let lights_room : c.loop-k.k < length c.loop-k.lights = omega (arith, c.loop-k-test.true, c.requires.3, c.loop-k.auto.lights) in
+    let lefts_room : c.loop-k.k < length c.loop-k.lefts = omega (arith, c.loop-k-test.true, c.requires.4, c.loop-k.auto.lefts) in
     (beside_more _ _ _ _ _ _ _ lights_room lefts_room _ _ c.contact_row-c.ensures told.0 c.word_of.ensures c.volume_of.ensures inv.0, told.1)
 
 pub returns : goal.returns

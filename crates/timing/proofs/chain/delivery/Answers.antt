@@ -9,7 +9,7 @@ use Rattle.timing.proofs.chain.delivery.Goals as goal
 
 pub loop-number-init : goal.loop-number-init
 unfolding delivery_of
-loop-number-init c = record { bounded = omega (arith, c.args.ask.good.time_most); carried = refl }
+loop-number-init c = record { bounded = omega (arith, c.requires.1); carried = refl }
 
 pub returns-in_err-ready : goal.returns-in_err-ready
 returns-in_err-ready c =

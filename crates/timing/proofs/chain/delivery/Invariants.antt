@@ -11,5 +11,5 @@ use Rattle.timing.proofs.chain.delivery.Given as goal
 abbrev pub invariant-loop-number : goal.invariant-loop-number
 invariant-loop-number l = record {
   bounded : l.ready.0 ≤ last_time + most_light;
-  carried : delivery_of (service_in l.service) l.ask.asked l.chain ≡ carry (service_in l.service) l.ask.asked l.node.0 l.ready.0 (drop l.number-index l.chain);
+  carried : delivery_of (service_in l.service) l.ask l.chain ≡ carry (service_in l.service) l.ask l.node.0 l.ready.0 (drop l.number-index l.chain);
 }

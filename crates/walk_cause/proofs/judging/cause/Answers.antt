@@ -9,7 +9,7 @@ use Rattle.walk_cause.proofs.judging.cause.Goals as goal
 
 pub loop-i-init : goal.loop-i-init
 unfolding cause_of
-loop-i-init c = record { within = omega arith; bounded = omega (arith, c.args.ask.good.time_most); told = refl }
+loop-i-init c = record { within = omega arith; bounded = omega (arith, c.requires.1); told = refl }
 
 pub returns-in-Err : goal.returns-in-Err
 returns-in-Err c = sym (c.loop-i.invariant.told ∙ cause_stops _ _ _ _ _ _ c.loop-i-test.true _ (sym c.judge.ensures ∙ c.in-Err.is))

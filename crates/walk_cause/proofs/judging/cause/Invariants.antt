@@ -12,6 +12,6 @@ abbrev pub invariant-loop-i : goal.invariant-loop-i
 invariant-loop-i l = record {
   within : l.i ≤ length l.chain;
   bounded : l.ready.0 ≤ last_time + most_light;
-  told : cause_of (service_in l.service) l.ask.asked l.chain
-      ≡ cause_from (service_in l.service) l.ask.asked l.node.0 l.ready.0 l.i (drop l.i l.chain);
+  told : cause_of (service_in l.service) l.ask l.chain
+      ≡ cause_from (service_in l.service) l.ask l.node.0 l.ready.0 l.i (drop l.i l.chain);
 }
