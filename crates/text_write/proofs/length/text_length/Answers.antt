@@ -2,29 +2,32 @@
 -- Assumes nothing.
 use native.Mathlib.Omega.{arith}
 use Rattle.units.specs.Limits.{most_contacts, most_ranges}
+use Rattle.plan.proofs.Lent.{contacts_counted, ranges_counted}
 use Rattle.text.specs.Rows.{contact_word, range_word}
 use Rattle.text_write.proofs.LengthCode.{text_counted}
 use Rattle.text_write.proofs.length.text_length.Goals as goal
 
 pub rows_length-requires : goal.rows_length-requires
-unfolding most_contacts most_ranges
+unfolding most_contacts
 rows_length-requires c =
-    (omega arith, c.requires.0, c.requires.2)
+    let valid = c.args.plan.now.valid in
+    (omega arith, contacts_counted _ _ _ _ valid, valid.contacts_lent)
 
 pub overflow_add-result : goal.overflow_add-result
-unfolding most_contacts most_ranges
-overflow_add-result c =
-    omega (arith, c.rows_length.ensures.1, c.requires.0)
+unfolding most_contacts
+overflow_add-result c = omega (arith, c.rows_length.ensures.1, contacts_counted _ _ _ _ c.args.plan.now.valid)
 
 pub rows_length-requires-2 : goal.rows_length-requires-2
-unfolding most_contacts most_ranges
+unfolding most_ranges
 rows_length-requires-2 c =
-    (omega arith, c.requires.1, c.requires.3)
+    let valid = c.args.plan.now.valid in
+    (omega arith, ranges_counted _ _ _ _ valid, valid.ranges_lent)
 
 pub overflow_add-result-2 : goal.overflow_add-result-2
 unfolding most_contacts most_ranges
 overflow_add-result-2 c =
-    omega (arith, c.rows_length.ensures.1, c.rows_length-2.ensures.1, c.requires.0, c.requires.1)
+    let valid = c.args.plan.now.valid in
+    omega (arith, c.rows_length.ensures.1, c.rows_length-2.ensures.1, contacts_counted _ _ _ _ valid, ranges_counted _ _ _ _ valid)
 
 pub returns : goal.returns
 unfolding contact_word range_word
