@@ -1,12 +1,7 @@
 -- `plan_valid::good::are_good` meets its contract.
 -- Assumes nothing.
-use mathlib.Core.Path.{ap}
-use Rattle.plan.specs.Model.{each}
-use Rattle.plan.proofs.Loops.{rows_all, each_goes, each_stops, each_ends}
+use Rattle.plan.proofs.Loops.{each_goes, each_stops, each_ends}
 use Rattle.plan_valid.proofs.good.are_good.Goals as goal
-
-pub loop-k-init : goal.loop-k-init
-loop-k-init g c = ap (each g.R.Row.good) (rows_all (g.R.Row.row_at c.args.table.now) c.args.n)
 
 pub returns-then-not-is_good : goal.returns-then-not-is_good
 returns-then-not-is_good g c =
