@@ -12,13 +12,7 @@ use plan_valid::CheckedPlan;
 fn digits(n: u64) -> usize
     ensures { (result ≡ length (decimal n)) × (result ≤ 20) }
 {
-    let mut v = n;
-    let mut k = 1;
-    while 10 <= v {
-        v = v / 10;
-        k += 1;
-    }
-    k
+    n.max(1).ilog10() as usize + 1
 }
 
 // How long the fields of the numbers are, with their tabs.
