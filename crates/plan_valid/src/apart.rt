@@ -8,7 +8,7 @@ ghost use Rattle.plan_valid.specs.Model.{GoodSpans, Room, Listed, ClearAfter, Ap
 use plan::{is_overlap, span_row};
 use plan_lists::{link, next_of};
 
-// Whether no later row overlaps row i: those of its slot are looked at.
+// Whether no later row overlaps row i: those of its slot are looked at, along their list.
 fn is_clear_after(table: &[u64], n: usize, nexts: &[u16], i: usize) -> bool
     requires { Listed table.now n nexts.now × Nexts (slot_at table.now) n nexts.now × (i < n) }
     ensures { Verdict (ClearAfter table.now n i) result }
