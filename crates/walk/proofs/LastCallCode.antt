@@ -6,23 +6,16 @@
 -- Assumes nothing.
 use mathlib.Core.List.{List, [], ◌∷◌, ◌++◌}
 use mathlib.Core.Path.{◌≡◌, refl, sym, ap, ◌∙◌, subst}
-use Prim.Native.Nat.{ℕ, zero, suc, ◌+◌, ◌-◌, ◌≤◌, ◌<◌, min}
+use Prim.Native.Nat.{ℕ, zero, suc, ◌+◌}
 use native.Mathlib.Nat.{not-suc-le-zero, le_of_suc-le-suc}
 use native.Mathlib.Omega.{arith}
 use lib.ListN.{length, get_or, length-append, get_or-append}
 use lib.Seq.{get_or-append-add}
 use Rattle.units.specs.declared.Ask.{Ask}
-use Rattle.plan.specs.declared.rows.Contact.{Contact}
-use Rattle.std.specs.Prelude.{Option}
-use Rattle.units.specs.declared.Millis.{Millis}
 use Rattle.plan.specs.Plan.{Each}
-use Rattle.plan.specs.Tables.{contact_at}
-use Rattle.service.specs.Service.{Service, light_in, left_in, InPlan}
-use Rattle.service.specs.Tables.{light_at, left_at, served}
+use Rattle.service.specs.Service.{Service, InPlan}
 use Rattle.timing.specs.Chain.{Carries, stays, hops}
-use Rattle.timing.specs.Model.{back_over}
 use Rattle.walk.specs.Model.{limit_over, limit_before}
-use Rattle.service.proofs.HeldLaws.{contact_lent, light_lent, left_lent}
 use Rattle.walk.proofs.LastCallLaws.{limit_append}
 
 module _ (p : Service) (size : ℕ) where

@@ -1,6 +1,6 @@
 -- `walk::last_call::limit_before` meets its contract.
 -- Assumes nothing.
-use mathlib.Core.Path.{◌≡◌, sym, ap, ◌∙◌, subst}
+use mathlib.Core.Path.{sym, ap, ◌∙◌, subst}
 use native.Mathlib.Omega.{arith}
 use Rattle.std.specs.Slice.Iter.{rchunks_rest, rchunks_size}
 use Rattle.units.specs.Limits.{most_chain}
