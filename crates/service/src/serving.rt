@@ -84,7 +84,7 @@ pub fn serve(plan: &CheckedPlan, lights: &mut [u32], lefts: &mut [u64])
 impl<'a> ServedPlan<'a> {
     // The plan as it serves an ask where nothing is booked, by way of the tables lent.
     pub fn unbooked(
-        plan: &CheckedPlan<'a>,
+        plan: &'a CheckedPlan,
         lights: &'a mut [u32],
         lefts: &'a mut [u64],
     ) -> ServedPlan<'a>
