@@ -11,19 +11,17 @@ use units::{Ask, CheckedAsk, MOST_SIZE};
 // Whether the chain carries a file of `size` bytes in time, all else as asked.
 #[tactic(auto, unfolding(crate::specs::Model::carries_size))]
 fn is_carried(service: &ServedPlan, ask: CheckedAsk, chain: &[u64], size: u64) -> bool
-    requires { (1 ≤ size) × (size ≤ most_size) }
+    requires { size ≤ most_size }
     ensures { result ≡ carries_size (service_in service.now) ask.asked chain.now size }
 {
-    let probe = CheckedAsk {
-        asked: Ask { size, ..ask.asked },
-    };
+    let probe = Ask { size, ..ask.asked };
     delivery(service, probe, chain).is_some_and(|delivered| delivered < ask.asked.deadline)
 }
 
 // The size with the bit added, where the chain still carries it.
 #[tactic(auto, unfolding(units::specs::Limits::most_size))]
 fn raise(service: &ServedPlan, ask: CheckedAsk, chain: &[u64], size: u64, bit: u64) -> u64
-    requires { (size ≤ most_size) × (1 ≤ bit) × (bit ≤ 2 ^ size_bits) }
+    requires { (size ≤ most_size) × (bit ≤ 2 ^ size_bits) }
     ensures { result ≡ raised (service_in service.now) ask.asked chain.now size bit }
 {
     let more = size + bit;

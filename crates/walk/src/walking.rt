@@ -61,10 +61,11 @@ pub fn figures_of(
 // The figures of the chain over a plan as it serves the ask, or why it is refused.
 #[tactic(auto, unfolding(crate::specs::Model::walk_model))]
 pub fn walk_served(service: &ServedPlan, ask: CheckedAsk, chain: &[u64]) -> Result<Figures, Refusal>
+    requires { ask.asked.source.0 ≡ ask.asked.destination.0 → ⊥ }
     ensures { result ≡ walk_model (service_in service.now) ask.asked chain.now }
 {
-    let Some(delivered) = delivery(service, ask, chain) else {
-        return Err(cause(service, ask, chain));
+    let Some(delivered) = delivery(service, ask.asked, chain) else {
+        return Err(cause(service, ask.asked, chain));
     };
     if delivered < ask.asked.deadline {
         Ok(figures_of(service, ask, chain, delivered))
@@ -76,6 +77,7 @@ pub fn walk_served(service: &ServedPlan, ask: CheckedAsk, chain: &[u64]) -> Resu
 // The same over a checked plan, where nothing is booked: its light times and what is left of its
 // contacts stand on the stack.
 fn walk_plan(plan: &CheckedPlan, ask: CheckedAsk, chain: &[u64]) -> Result<Figures, Refusal>
+    requires { ask.asked.source.0 ≡ ask.asked.destination.0 → ⊥ }
     ensures { result ≡ walk_model (service_of (plan_in plan.now.tables) unused) ask.asked chain.now }
 {
     let mut lights = [BLANK_LIGHT; MOST_CONTACTS];
@@ -89,7 +91,14 @@ fn walk_plan(plan: &CheckedPlan, ask: CheckedAsk, chain: &[u64]) -> Result<Figur
 pub fn walk(tables: PlanTables, ask: Ask, chain: &[u64]) -> Result<Figures, Refusal>
     ensures { Walks tables.entry.contacts.now tables.entry.contact_count tables.entry.ranges.now tables.entry.range_count ask chain.now result }
 {
-    let plan = CheckedPlan::of(tables).ok_or(Refusal::NoPlan)?;
-    let asked = CheckedAsk::of(ask)?;
+    let Some(plan) = CheckedPlan::of(tables) else {
+        return Err(Refusal::NoPlan);
+    };
+    let Some(asked) = CheckedAsk::of(ask) else {
+        return Err(Refusal::AskValue);
+    };
+    if ask.source == ask.destination {
+        return Err(Refusal::SameNode);
+    }
     walk_plan(&plan, asked, chain)
 }

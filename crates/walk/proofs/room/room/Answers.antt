@@ -3,7 +3,6 @@
 use mathlib.Core.Path.{sym, ◌∙◌, subst}
 use Prim.Native.Nat.{ℕ, ◌-◌, ◌≤◌, zero-le}
 use native.Mathlib.Omega.{arith}
-use lib.Pow.{pow_pos}
 use Rattle.units.specs.Limits.{most_size}
 use Rattle.walk.specs.Model.{size_bits}
 use Rattle.walk.proofs.RoomCode.{bit_most, shifted, raised_most, room_begins, room_goes, room_ends}
@@ -17,7 +16,7 @@ raise-size-requires c =
     let inv = c.loop-bit.invariant in
     let bit = c.loop-bit.bit - 1 in
     let fits : bit ≤ size_bits = omega (arith, c.loop-bit.auto.bit) in
-    (inv.most, omega (arith, shifted bit fits, pow_pos bit), omega (arith, shifted bit fits, bit_most bit fits))
+    (inv.most, omega (arith, shifted bit fits, bit_most bit fits))
 
 pub loop-bit-preserved : goal.loop-bit-preserved
 loop-bit-preserved c =

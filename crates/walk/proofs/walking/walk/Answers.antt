@@ -1,24 +1,25 @@
 -- `walk::walking::walk` meets its contract.
 -- Assumes nothing.
-use mathlib.Core.Path.{◌≡◌, ap, ◌∙◌}
-use Rattle.std.specs.Prelude.{Err}
-use Rattle.units.specs.declared.Refusal.TheVariants.{NoPlan}
-use Rattle.walk.proofs.WalkCode.{hands_on, walks_no_plan, walks_checked}
+use mathlib.Core.Path.{sym, ◌∙◌, subst}
+use borrow.Author.Tests.{eqb-true, eqb-false}
+use Rattle.units.specs.Asks.{GoodAsk}
+use Rattle.plan.specs.Lent.{HoldPlan}
+use Rattle.walk.specs.Walk.{no_plan, bad_ask, same_node}
+use Rattle.walk.proofs.WalkCode.{walks_checked}
 use Rattle.walk.proofs.walking.walk.Goals as goal
 
-pub returns-in_err-plan : goal.returns-in_err-plan
-returns-in_err-plan c =
-    let none = rw c.in_err-plan.ensures.ok_part at c.of.ensures in
-    let told = rw c.in_err-plan.ensures.ok_part at c.in_err-plan.ensures.value in
-    let why : c.in_err-plan.field-0.0 ≡ NoPlan = cc told in
-    walks_no_plan c.args.tables _ _ _ none (hands_on c.in_err-plan.field-0.0 c.from_residual.result c.from_residual.ensures.1 ∙ ap Err why)
+pub returns-in_default : goal.returns-in_default
+returns-in_default c = no_plan c.in_default.ensures
 
-pub returns-in_err-asked : goal.returns-in_err-asked
-returns-in_err-asked c =
-    let same = rw c.in_ok-plan.ensures.ok_part at c.of.ensures in
-    walks_checked c.args.tables _ _ _ c.in_ok-plan.plan same c.in_err-asked.ensures (hands_on c.in_err-asked.field-0.0 c.from_residual-in_err-asked.result c.from_residual-in_err-asked.ensures.1)
+pub returns-in_default-of : goal.returns-in_default-of
+returns-in_default-of c = bad_ask (subst HoldPlan c.in-Some.ensures c.in-Some.plan.valid) c.in_default-of.ensures
+
+pub returns-then-eq : goal.returns-then-eq
+returns-then-eq c =
+    same_node (subst HoldPlan c.in-Some.ensures c.in-Some.plan.valid) (subst GoodAsk c.in-Some-of.ensures c.in-Some-of.asked.good)
+    (eqb-true _ _ (sym c.eq.ensures ∙ c.if-eq.true))
 
 pub returns : goal.returns
 returns c =
-    let same = rw c.in_ok-plan.ensures.ok_part at c.of.ensures in
-    walks_checked c.args.tables _ _ _ c.in_ok-plan.plan same c.in_ok-asked.ensures c.walk_plan.ensures
+    walks_checked _ _ _ c.in-Some.plan c.in-Some.ensures c.in-Some-of.asked c.in-Some-of.ensures
+    (eqb-false _ _ (sym c.eq.ensures ∙ c.if-eq.false)) _ c.walk_plan.ensures
