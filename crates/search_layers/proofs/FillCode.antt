@@ -17,17 +17,11 @@ use lib.ListN.{length, get_or, set, take, drop, replicate, length-set, length-re
 use Rattle.units.specs.declared.Ask.{Ask}
 use Rattle.units.specs.Limits.{last_time, most_light, most_nodes}
 use Rattle.plan.specs.Plan.{Each}
-<<<<<<< HEAD
 use Rattle.service.specs.Service.{Service}
 use Rattle.service.specs.declared.tables.ServedPlan.{ServedPlan}
 use Rattle.service.specs.Held.{service_in}
 use Rattle.service.proofs.HeldLaws.{held_sound, held_counted}
 use Rattle.units.specs.declared.asks.CheckedAsk.{CheckedAsk}
-=======
-use Rattle.service.specs.Service.{Service, blank}
-use Rattle.service.proofs.HeldLaws.{length_served}
-use Rattle.service.specs.Tables.{served}
->>>>>>> 1ef6847278b5e42b104b6df1ee43c89e1efe1d9a
 use Rattle.units.specs.Asks.{GoodAsk}
 use Rattle.network.specs.Model.{behind, relaxed, layer}
 use Rattle.network.specs.Network.{When, never, last, Network, Laws}

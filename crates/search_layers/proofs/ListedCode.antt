@@ -17,19 +17,11 @@ use Rattle.plan.specs.Tables.{contact_at}
 use Rattle.plan_lists.specs.Leaving.{from_at, LinkableFrom}
 use Rattle.plan_lists.specs.Lists.{LeastFrom, Nexts, Linked}
 use Rattle.plan_lists.specs.Model.{most_rows}
-<<<<<<< HEAD
 use Rattle.service.specs.declared.tables.ServedPlan.{ServedPlan}
 use Rattle.service.specs.Held.{service_in}
 use Rattle.service.specs.Service.{InPlan}
 use Rattle.service.proofs.Bounded.{contact_good}
 use Rattle.service.proofs.HeldLaws.{held_sound, held_counted, held_named, held_contact}
-=======
-use Rattle.service.specs.Service.{Service, InPlan}
-use Rattle.service.specs.Tables.{served, IsService}
-use Rattle.service.proofs.HeldLaws.{length_served, contact_lent, named_in_plan}
-use Rattle.timing.proofs.ChainCode.{named_good}
-use Rattle.units.specs.Asks.{GoodAsk}
->>>>>>> 1ef6847278b5e42b104b6df1ee43c89e1efe1d9a
 use Rattle.network.specs.Model.{relax}
 use Rattle.network.specs.Network.{Network, IsContact}
 use Rattle.search_layers.specs.declared.contact_network.ContactNetwork.{ContactNetwork}

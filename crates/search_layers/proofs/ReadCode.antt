@@ -7,15 +7,7 @@ use Prim.Native.Nat.{ℕ, ◌-◌}
 use Rattle.units.specs.declared.Ask.{Ask}
 use Rattle.plan.specs.declared.rows.Contact.{Contact}
 use Rattle.plan.specs.Plan.{GoodContact}
-<<<<<<< HEAD
 use Rattle.service.specs.Service.{Service, contact_of}
-=======
-use Rattle.plan.specs.Tables.{contact_at}
-use Rattle.service.specs.Service.{Service, contact_of, InPlan}
-use Rattle.service.specs.Tables.{served, IsService}
-use Rattle.service.proofs.HeldLaws.{contact_lent}
-use Rattle.timing.proofs.ChainCode.{named_good}
->>>>>>> 1ef6847278b5e42b104b6df1ee43c89e1efe1d9a
 use Rattle.search_layers.specs.Bridge.{network_of}
 
 pub record Read (p : Service) (c : ℕ) (x : Contact) : Type 0 where

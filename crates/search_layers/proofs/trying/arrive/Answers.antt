@@ -1,19 +1,10 @@
 -- `search_layers::trying::arrive` meets its contract.
 -- Assumes nothing.
-<<<<<<< HEAD
 use mathlib.Core.Path.{refl, sym, ap, ◌∙◌}
 use Rattle.service.proofs.HeldLaws.{held_sound}
 use Rattle.timing.specs.Hop.{is_barred}
 use Rattle.network.specs.Model.{behind}
 use Rattle.search_layers.proofs.ArriveCode.{arrive_barred, arrive_over, arrive_good}
-=======
-use mathlib.Core.Path.{sym, ◌∙◌}
-use native.Mathlib.Omega.{arith}
-use Rattle.service.proofs.HeldLaws.{named_at_most}
-use Rattle.search_layers.specs.Words.{never_word}
-use Rattle.search_layers.proofs.ArriveCode.{open_time, arrive_shut, arrive_ready, arrive_unready}
-use Rattle.search_layers.proofs.ReadCode.{contact_read}
->>>>>>> 1ef6847278b5e42b104b6df1ee43c89e1efe1d9a
 use Rattle.search_layers.proofs.trying.arrive.Goals as goal
 
 pub returns-in_err-time-clause-time : goal.returns-in_err-time-clause-time

@@ -1,14 +1,8 @@
 -- `search_layers::trying::try_contact` meets its contract.
 -- Assumes nothing.
-<<<<<<< HEAD
 use mathlib.Core.Path.{subst}
 use Rattle.service.proofs.HeldLaws.{held_sound}
 use Rattle.search_layers.specs.Words.{TimeGood}
-=======
-use native.Mathlib.Omega.{arith}
-use Rattle.units.specs.Limits.{most_nodes}
-use Rattle.service.proofs.HeldLaws.{named_at_most}
->>>>>>> 1ef6847278b5e42b104b6df1ee43c89e1efe1d9a
 use Rattle.search_layers.proofs.ArriveCode.{late_by}
 use Rattle.search_layers.proofs.LayerCode.{tried_late, tried_earlier, tried_later, tried_unready}
 use Rattle.search_layers.proofs.ReadCode.{read_by}
