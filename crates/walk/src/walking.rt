@@ -37,6 +37,7 @@ fn last_call(service: &ServedPlan, ask: CheckedAsk, chain: &[u64]) -> Millis
 }
 
 // The figures of a chain that delivers at `delivered`.
+#[tactic(auto, unfolding(crate::specs::Model::figures_of))]
 pub fn figures_of(
     service: &ServedPlan,
     ask: CheckedAsk,
@@ -58,11 +59,8 @@ pub fn figures_of(
 }
 
 // The figures of the chain over a plan as it serves the ask, or why it is refused.
-pub fn walk_served(
-    service: &ServedPlan,
-    ask: CheckedAsk,
-    chain: &[u64],
-) -> Result<Figures, Refusal>
+#[tactic(auto, unfolding(crate::specs::Model::walk_model))]
+pub fn walk_served(service: &ServedPlan, ask: CheckedAsk, chain: &[u64]) -> Result<Figures, Refusal>
     ensures { result ≡ walk_model (service_in service.now) ask.asked chain.now }
 {
     let Some(delivered) = delivery(service, ask, chain) else {

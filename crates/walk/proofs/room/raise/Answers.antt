@@ -1,6 +1,5 @@
 -- `walk::room::raise` meets its contract.
 -- Assumes nothing.
-use Rattle.std.proofs.lemmas.Grind.{common_steps}
 use native.Mathlib.Omega.{arith}
 use Rattle.units.specs.Limits.{most_size}
 use Rattle.walk.proofs.room.raise.Goals as goal
