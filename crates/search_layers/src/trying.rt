@@ -36,7 +36,7 @@ pub fn arrive(
     if is_barred(ask.asked, service.contact(no)) {
         return None;
     }
-    over(service, ask, no, time)
+    over(service, ask.asked, no, time)
 }
 
 // Whether the times alone show that the contact brings the file no earlier than the word `there` says: it is
