@@ -9,7 +9,7 @@ mod tables;
 mod valid;
 
 pub use rows::{
-    Contact, Range, Row, Span, WORDS, contact_numbered, contact_row, range_row, span_row,
+    Contact, Range, Row, Span, WORDS, contact_numbered, span_row,
 };
 pub use tables::PlanTables;
-pub use valid::{is_clear, is_good_contact, is_good_range, is_overlap};
+pub use valid::{is_clear, is_overlap};

@@ -186,22 +186,6 @@ impl Row for Range {
     }
 }
 
-// The contact in row k, counted from 0.
-pub fn contact_row(contacts: &[u64], k: usize) -> Contact
-    requires { k * words + words ≤ length contacts.now }
-    ensures { result ≡ contact_at contacts.now k }
-{
-    Contact::read(contacts, k)
-}
-
-// The range in row k, counted from 0.
-pub fn range_row(ranges: &[u64], k: usize) -> Range
-    requires { k * words + words ≤ length ranges.now }
-    ensures { result ≡ range_at ranges.now k }
-{
-    Range::read(ranges, k)
-}
-
 // The pair and the time of row k of either table.
 pub fn span_row(table: &[u64], k: usize) -> Span
     requires { k * words + words ≤ length table.now }

@@ -1,24 +1,9 @@
-// The tests of the rows of a plan, which serve where rows are taken one by one and where a whole plan
-// is judged.
+// Rows held against each other by their pairs and times.
 ghost use Rattle.std.specs.Prelude.{not, ◌≡◌, ◌-◌, ◌*◌, ◌≤◌, length};
-ghost use Rattle.plan.specs.Model.{good_contact, good_range, overlap, each};
+ghost use Rattle.plan.specs.Model.{overlap, each};
 ghost use Rattle.plan.specs.Tables.{words, span_at, rows_from};
 
-use crate::rows::{Contact, Range, Row, Span, span_row};
-
-// Every value in its range, start below end, the two nodes different.
-pub fn is_good_contact(c: Contact) -> bool
-    ensures { result ≡ good_contact c }
-{
-    c.is_good()
-}
-
-// Every value in its range, start below end, the two nodes in order.
-pub fn is_good_range(r: Range) -> bool
-    ensures { result ≡ good_range r }
-{
-    r.is_good()
-}
+use crate::rows::{Span, span_row};
 
 // The same two nodes, and the start of each below the end of the other.
 pub fn is_overlap(x: Span, y: Span) -> bool

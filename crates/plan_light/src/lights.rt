@@ -10,7 +10,7 @@ ghost use Rattle.plan_lists.specs.Lists.{LeastFrom, pair_slot, slot_at, InOrder}
 ghost use Rattle.plan_light.specs.Model.{pair_of, RangesLinked, RangesListed, Passed, Past, Kept};
 
 use crate::lists::RangeLists;
-use plan::{Contact, Range, Span, range_row};
+use plan::{Contact, Range, Row, Span};
 use plan_lists::{head_of, next_of};
 use units::Millis;
 
@@ -92,7 +92,7 @@ fn light_along(lists: &RangeLists, begin: usize, c: Contact) -> Option<Millis>
     let mut light = Millis(0);
     let mut j = begin;
     while j < lists.range_count {
-        let r = range_row(lists.ranges, j);
+        let r = Range::read(lists.ranges, j);
         if is_behind(lists.ordered, r, c) {
             return None;
         }
@@ -115,7 +115,7 @@ fn pass_over(lists: &RangeLists, begin: usize, time: Millis) -> usize
     let mut j = begin;
     let mut next = next_of(lists.nexts, j);
     while next < lists.range_count {
-        if time < range_row(lists.ranges, next).end {
+        if time < Range::read(lists.ranges, next).end {
             return j;
         }
         j = next;
@@ -134,7 +134,7 @@ fn begin_at(lists: &RangeLists, kept: &[u16], head: usize, time: Millis) -> usiz
     if lists.range_count <= row {
         return head;
     }
-    if time < range_row(lists.ranges, row).end {
+    if time < Range::read(lists.ranges, row).end {
         return head;
     }
     row
@@ -150,7 +150,7 @@ fn open_row(lists: &RangeLists, kept: &mut [u16], head: usize, time: Millis) -> 
     if !lists.ordered {
         return head;
     }
-    if time < range_row(lists.ranges, head).end {
+    if time < Range::read(lists.ranges, head).end {
         return head;
     }
     let begin = begin_at(lists, kept, head, time);
@@ -170,7 +170,7 @@ pub fn light_kept(lists: &RangeLists, kept: &mut [u16], c: Contact) -> Option<Mi
     if lists.range_count <= head {
         return None;
     }
-    let r = range_row(lists.ranges, head);
+    let r = Range::read(lists.ranges, head);
     if is_covering(r, pair, c) {
         return Some(r.light);
     }

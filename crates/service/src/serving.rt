@@ -11,7 +11,7 @@ ghost use Rattle.service.specs.Service.{volume, service_of, unused, LightGood};
 ghost use Rattle.service.specs.Tables.{light_word, served};
 
 use crate::tables::{ServedPlan, UNRANGED};
-use plan::{Contact, contact_row};
+use plan::{Contact, Row};
 use plan_light::{RangeLists, light_kept};
 use plan_lists::{BLANK, MOST_ROWS, SLOTS, link};
 use plan_valid::CheckedPlan;
@@ -62,7 +62,7 @@ fn serve_in(
         ordered,
     };
     for k in 0..plan.tables.contact_count {
-        let c = contact_row(plan.tables.contacts, k);
+        let c = Contact::read(plan.tables.contacts, k);
         let light = light_kept(&lists, kept, c);
         lights[k] = word_of(light);
         lefts[k] = volume_of(c);

@@ -5,7 +5,7 @@ ghost use Rattle.text_lines.specs.Model.{capped_value, fields_from, field_at, go
 
 use crate::marks::find;
 use crate::number::{is_number, value_of};
-use plan::{WORDS, contact_row, range_row};
+use plan::{Contact, Range, Row, WORDS};
 use text::Line;
 
 // The byte between two fields.
@@ -68,10 +68,10 @@ pub fn said_by(line: &[u8]) -> Option<Line>
     }
     let word = &line[..end];
     if word == CONTACT {
-        return Some(Line::Contact(contact_row(&row, 0)));
+        return Some(Line::Contact(Contact::read(&row, 0)));
     }
     if word == RANGE {
-        return Some(Line::Range(range_row(&row, 0)));
+        return Some(Line::Range(Range::read(&row, 0)));
     }
     None
 }

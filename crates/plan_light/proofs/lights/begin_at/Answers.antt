@@ -8,4 +8,4 @@ use Rattle.plan_light.proofs.lights.begin_at.Goals as goal
 pub returns : goal.returns
 returns c =
     let pre = c.requires in
-    past_kept _ _ _ pre.0 _ _ _ pre.1.below c.from-row.ensures c.if-lists-row.false _ c.range_row.ensures (search rules)
+    past_kept _ _ _ pre.0 _ _ _ pre.1.below c.from-row.ensures c.if-lists-row.false _ c.read.ensures (search rules)

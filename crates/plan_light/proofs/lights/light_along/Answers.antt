@@ -14,15 +14,15 @@ loop-j-init c =
     let rows = c.args.lists.now.listed.rows in
     walk_starts _ _ _ _ rows pre.0 _ pre.1
 
-pub range_row-r-requires : goal.range_row-r-requires
-range_row-r-requires c = omega (arith, c.args.lists.now.listed.rows.lent)
+pub read-r-requires : goal.read-r-requires
+read-r-requires c = omega (arith, c.args.lists.now.listed.rows.lent)
 
 pub returns-then-is_behind : goal.returns-then-is_behind
 returns-then-is_behind c =
     let pre = c.requires in
     let rows = c.args.lists.now.listed.rows in
     let behind = c.is_behind.ensures c.if-is_behind.true in
-    walk_stops _ _ _ _ rows pre.0 _ _ _ c.loop-j.invariant c.loop-j-test.true _ c.range_row-r.ensures
+    walk_stops _ _ _ _ rows pre.0 _ _ _ c.loop-j.invariant c.loop-j-test.true _ c.read-r.ensures
     (c.args.lists.now.in_order behind.0) behind.1
 
 pub shared_by-shared-requires : goal.shared_by-shared-requires
@@ -30,7 +30,7 @@ shared_by-shared-requires c =
     let pre = c.requires in
     let rows = c.args.lists.now.listed.rows in
     let inv = c.loop-j.invariant in (
-      walk_good _ _ _ _ rows pre.0 _ _ _ inv c.loop-j-test.true _ c.range_row-r.ensures,
+      walk_good _ _ _ _ rows pre.0 _ _ _ inv c.loop-j-test.true _ c.read-r.ensures,
       pre.0,
       c.pair_of-pair.ensures,
     )
@@ -39,14 +39,14 @@ pub overflow_sub-missing-in-loop-j : goal.overflow_sub-missing-in-loop-j
 overflow_sub-missing-in-loop-j c =
     let pre = c.requires in
     let rows = c.args.lists.now.listed.rows in
-    walk_room _ _ _ _ rows pre.0 _ _ _ c.loop-j.invariant c.loop-j-test.true _ c.range_row-r.ensures _
+    walk_room _ _ _ _ rows pre.0 _ _ _ c.loop-j.invariant c.loop-j-test.true _ c.read-r.ensures _
     c.shared_by-shared.ensures
 
 pub returns-then-missing-eq0 : goal.returns-then-missing-eq0
 returns-then-missing-eq0 c =
     let pre = c.requires in
     let rows = c.args.lists.now.listed.rows in
-    walk_found _ _ _ _ rows pre.0 _ _ _ c.loop-j.invariant c.loop-j-test.true _ c.range_row-r.ensures _
+    walk_found _ _ _ _ rows pre.0 _ _ _ c.loop-j.invariant c.loop-j-test.true _ c.read-r.ensures _
     c.shared_by-shared.ensures _ c.largest_with-light.ensures c.if-missing-eq0.true
 
 pub next_of-j-requires : goal.next_of-j-requires
@@ -63,7 +63,7 @@ pub loop-j-preserved : goal.loop-j-preserved
 loop-j-preserved c =
     let pre = c.requires in
     let rows = c.args.lists.now.listed.rows in
-    walk_goes _ _ _ _ rows pre.0 _ _ _ c.loop-j.invariant c.loop-j-test.true _ c.range_row-r.ensures _
+    walk_goes _ _ _ _ rows pre.0 _ _ _ c.loop-j.invariant c.loop-j-test.true _ c.read-r.ensures _
     c.shared_by-shared.ensures _ c.largest_with-light.ensures c.if-missing-eq0.false _ c.next_of-j.ensures
 
 pub returns : goal.returns

@@ -22,7 +22,7 @@ returns-then-is_covering c =
     let listed = c.args.lists.now.listed in
     let first = head_passed _ _ _ _ _ listed pre.0 _ c.pair_of-pair.ensures _ c.head_of-head.ensures in
     let covers = c.is_covering.ensures c.if-is_covering.true in
-    (open_covers _ _ _ _ listed.rows pre.0 _ first c.if-lists-head.false _ c.range_row-r.ensures covers.0 covers.1 covers.2, pre.1)
+    (open_covers _ _ _ _ listed.rows pre.0 _ first c.if-lists-head.false _ c.read-r.ensures covers.0 covers.1 covers.2, pre.1)
 
 pub open_row-open-requires : goal.open_row-open-requires
 open_row-open-requires c =

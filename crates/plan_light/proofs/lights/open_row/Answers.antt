@@ -20,7 +20,7 @@ returns-then-lt c =
 pub begin_at-begin-requires : goal.begin_at-begin-requires
 begin_at-begin-requires c =
     let pre = c.requires in
-    (pre.0, past_at _ _ _ _ _ pre.1 refl _ c.range_row.ensures (search rules))
+    (pre.0, past_at _ _ _ _ _ pre.1 refl _ c.read.ensures (search rules))
 
 pub overflow_cast-kept : goal.overflow_cast-kept
 unfolding most_rows

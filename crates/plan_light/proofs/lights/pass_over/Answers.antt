@@ -14,8 +14,8 @@ next_of-next-requires c =
 pub loop-next-init : goal.loop-next-init
 loop-next-init c = (c.requires, c.next_of-next.ensures)
 
-pub range_row-requires : goal.range_row-requires
-range_row-requires c = omega (arith, c.loop-next-test.true, c.args.lists.now.listed.rows.lent)
+pub read-requires : goal.read-requires
+read-requires c = omega (arith, c.loop-next-test.true, c.args.lists.now.listed.rows.lent)
 
 pub returns-then-lt : goal.returns-then-lt
 returns-then-lt c = c.loop-next.invariant.0
@@ -32,7 +32,7 @@ loop-next-smaller c =
 pub loop-next-preserved : goal.loop-next-preserved
 loop-next-preserved c =
     let inv = c.loop-next.invariant in (
-      past_next _ _ _ c.args.lists.now.listed.rows _ _ _ inv.0 _ inv.1 c.loop-next-test.true _ c.range_row.ensures (search rules),
+      past_next _ _ _ c.args.lists.now.listed.rows _ _ _ inv.0 _ inv.1 c.loop-next-test.true _ c.read.ensures (search rules),
       c.next_of-next-in-loop-next.ensures,
     )
 

@@ -30,7 +30,7 @@ loop-k-init c =
     (λ j h. absurd (omega arith), kept_none _ _ _ _ c.args.plan.now.valid c.args.heads.now c.args.nexts.now pre.0 pre.1 _ pre.2)
 
 pub light_kept-light-requires : goal.light_kept-light-requires
-light_kept-light-requires c = (row_good _ _ _ _ c.args.plan.now.valid _ c.loop-k-test.true _ c.contact_row-c.ensures, c.loop-k.invariant.1)
+light_kept-light-requires c = (row_good _ _ _ _ c.args.plan.now.valid _ c.loop-k-test.true _ c.read-c.ensures, c.loop-k.invariant.1)
 
 pub word_of-requires : goal.word_of-requires
 word_of-requires c = light_in_range _ _ _ _ c.args.plan.now.valid _ _ c.light_kept-light.ensures.0
@@ -40,7 +40,7 @@ unfolding most_contacts
 bounds-lights-k c = omega (arith, c.loop-k-test.true, contacts_counted _ _ _ _ c.args.plan.now.valid)
 
 pub volume_of-requires : goal.volume_of-requires
-volume_of-requires c = row_good _ _ _ _ c.args.plan.now.valid _ c.loop-k-test.true _ c.contact_row-c.ensures
+volume_of-requires c = row_good _ _ _ _ c.args.plan.now.valid _ c.loop-k-test.true _ c.read-c.ensures
 
 pub bounds-lefts-k : goal.bounds-lefts-k
 unfolding most_contacts
@@ -54,7 +54,7 @@ loop-k-preserved c =
     let few = contacts_counted _ _ _ _ c.args.plan.now.valid in
     let lights_room : c.loop-k.k < length c.loop-k.lights = omega (arith, c.loop-k-test.true, c.requires.3, c.loop-k.auto.lights) in
     let lefts_room : c.loop-k.k < length c.loop-k.lefts = omega (arith, c.loop-k-test.true, c.requires.4, c.loop-k.auto.lefts) in
-    (beside_more _ _ _ _ _ _ _ lights_room lefts_room _ _ c.contact_row-c.ensures told.0 c.word_of.ensures c.volume_of.ensures inv.0, told.1)
+    (beside_more _ _ _ _ _ _ _ lights_room lefts_room _ _ c.read-c.ensures told.0 c.word_of.ensures c.volume_of.ensures inv.0, told.1)
 
 pub returns : goal.returns
 returns c = beside_all _ _ _ _ _ _ (λ j h. c.loop-k.invariant.0 j (omega (arith, c.loop-k-test.false)))

@@ -20,14 +20,14 @@ unfolding contact_word
 returns-then-eq c =
     let good = c.if-not-numbers.false in
     said_contact _ _ c.find-end.ensures _ c.numbers.ensures.0 good _ _ (same_told _ _ c.eq.ensures c.if-eq.true)
-    (c.numbers.ensures.1 good) c.contact_row.ensures
+    (c.numbers.ensures.1 good) c.read.ensures
 
 pub returns-then-eq-2 : goal.returns-then-eq-2
 unfolding contact_word range_word
 returns-then-eq-2 c =
     let good = c.if-not-numbers.false in
     said_range _ _ c.find-end.ensures _ c.numbers.ensures.0 good _ _ (same_told _ _ c.eq.ensures c.if-eq.false)
-    (same_told _ _ c.eq-2.ensures c.if-eq-2.true) (c.numbers.ensures.1 good) c.range_row.ensures
+    (same_told _ _ c.eq-2.ensures c.if-eq-2.true) (c.numbers.ensures.1 good) c.read-then-eq-2.ensures
 
 pub returns : goal.returns
 unfolding contact_word range_word
