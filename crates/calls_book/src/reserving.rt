@@ -59,7 +59,7 @@ pub fn book_route(
         return Err(Refusal::ShortChain);
     }
     let call = checks(tables, BookTables { places, chains }, ask, class)?;
-    let Some(k) = lowest_free(call.book.places) else {
+    let Some(k) = lowest_free(places) else {
         return Err(refuse_full(&call));
     };
     let Best { figures, count } = route_good(&call, chain)?;
