@@ -15,8 +15,8 @@ returns-in_err-plan c =
 
 pub returns-in_err-asked : goal.returns-in_err-asked
 returns-in_err-asked c =
-    let same = rw c.in_ok-plan.ensures.ok_part at c.of.ensures in
-    walks_checked c.args.tables _ _ _ c.in_ok-plan.plan same c.in_err-asked.ensures (hands_on c.in_err-asked.field-0.0 c.from_residual-in_err-asked.result c.from_residual-in_err-asked.ensures.1)
+    let told = hands_on c.in_err-asked.field-0.0 c.from_residual-in_err-asked.result c.from_residual-in_err-asked.ensures.1 in
+    walks_checked c.args.tables _ _ _ c.in_ok-plan.plan (rw c.in_ok-plan.ensures.ok_part at c.of.ensures) c.in_err-asked.ensures told
 
 pub returns : goal.returns
 returns c =
