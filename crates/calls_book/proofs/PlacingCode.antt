@@ -44,16 +44,16 @@ plan_refused (too_late a l) = refl
 module _ {contacts : List ℕ} {m : ℕ} {ranges : List ℕ} {n : ℕ} {book chains : List ℕ} {ask : Ask} {class : ℕ} {call : CheckedCall}
     (same : Holds contacts m ranges n book chains ask class call) where
   -- why that call is refused, whatever chain is lent
-  pub refused_as : {why : Refusal}
+  pub refused_as : (why : Refusal)
       → RefusedFor call.plan.tables.contacts.now call.plan.tables.contact_count call.plan.tables.ranges.now call.plan.tables.range_count call.book.places.now
           call.book.chains.now call.ask.asked call.class why
       → RefusedFor contacts m ranges n book chains ask class why
-  refused_as {why} h =
+  refused_as why h =
       transport
       (λ i. RefusedFor (same.contacts_same i) (same.contact_count_same i) (same.ranges_same i) (same.range_count_same i) (same.places_same i)
           (same.chains_same i) (same.ask_same i) (same.class_same i) why) h
 
-  module _ (good : Good contacts m ranges n book chains ask class) {before : List ℕ} (long : most_chain ≤ length before) where
+  module _ (good : Good contacts m ranges n book chains ask class) (before : List ℕ) (long : most_chain ≤ length before) where
     pub answer_routes : {r : Result Best Refusal} {after : List ℕ} → r ≡ route_model (service_for call) call.ask.asked
         → after ≡ route_after (service_for call) call.ask.asked before → RoutesBooked contacts m ranges n book chains ask class before r after
     answer_routes e f = routed long good (call_routed same good e f)
@@ -100,13 +100,13 @@ module _ (call : CheckedCall) where
   unfolding RefusedFor
   refuse_any e before long =
       let kept = plan_refused (call_routed (call_holds call) (call_good call) {before = before} e refl) in
-      refused_route (call_holds call) (call_good call) long e (sym kept)
+      refused_route (call_holds call) (call_good call) before long e (sym kept)
 
   pub full_any : AllOpen call.book.places.now → {b : Best} → Ok b ≡ route_model (service_for call) call.ask.asked
       → RefusedFor call.plan.tables.contacts.now call.plan.tables.contact_count call.plan.tables.ranges.now call.plan.tables.range_count
           call.book.places.now call.book.chains.now call.ask.asked call.class FullBook
   unfolding RefusedFor
-  full_any all e before long = full (answer_routes (call_holds call) (call_good call) long e refl) all
+  full_any all e before long = full (answer_routes (call_holds call) (call_good call) before long e refl) all
 
 -- what is entered is the booking of the ask
 pub front_entered : (book : List ℕ) (k : ℕ) (ask : Ask) (class : ℕ) (chain book' : List ℕ) (bytes : ℕ) → bytes ≡ consumed ask.size
