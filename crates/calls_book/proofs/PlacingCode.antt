@@ -4,6 +4,7 @@
 --     answer_routes                    what `route_good` gives is the answer promised
 --     refused_route, placed_route      nothing is booked where there is no route, and a route is booked in its place
 --     counted, bookable, front_entered      its chain can be booked there, with the consumption of the ask
+--     plan_fails, plan_holds           what the test of a plan says
 --     freed_place                      a booking is released
 -- Assumes nothing.
 use mathlib.Core.List.{List}
@@ -12,13 +13,16 @@ use Prim.Native.Nat.{ℕ, suc, ◌+◌, ◌-◌, ◌≤◌}
 use native.Mathlib.Omega.{arith}
 use lib.ListN.{length, take}
 use Rattle.std.proofs.Math.Path.{transport}
-use Rattle.std.specs.Prelude.{Result, Ok, Err}
+use Rattle.std.specs.Prelude.{true, false, Option, Some, None, is_none, MatchOption, Result, Ok, Err}
 use Rattle.units.specs.Limits.{most_chain}
 use Rattle.units.specs.declared.Ask.{Ask}
 use Rattle.units.specs.declared.Refusal.{Refusal}
 use Rattle.units.specs.declared.Refusal.TheVariants.{FullBook}
+use Rattle.plan.specs.Lent.{HoldPlan}
 use Rattle.plan.specs.Tables.{IsPlan, plan_of}
+use Rattle.plan.specs.declared.tables.PlanTables.{PlanTables}
 use Rattle.plan.proofs.Lent.{contacts_counted}
+use Rattle.plan_valid.specs.declared.checked.CheckedPlan.{CheckedPlan}
 use Rattle.service.specs.Service.{Service}
 use Rattle.book.specs.Tables.{IsBook, book_of}
 use Rattle.book_keeping.specs.Keeping.{IsLowestFree, AllOpen, entered, entered_chain, freed}
@@ -112,6 +116,16 @@ module _ (call : CheckedCall) where
 pub front_entered : (book : List ℕ) (k : ℕ) (ask : Ask) (class : ℕ) (chain book' : List ℕ) (bytes : ℕ) → bytes ≡ consumed ask.size
     → book' ≡ entered book k (record { class = class; consumption = bytes; chain = chain }) → book' ≡ entered book k (booking_of ask class chain)
 front_entered book k ask class chain book' bytes e stored = stored ∙ ap (λ (x : ℕ). entered book k (record { class = class; consumption = x; chain = chain })) e
+
+-- lent tables that were tried as a plan
+module _ (tables : PlanTables) where
+  pub plan_fails : (r : Option CheckedPlan) → MatchOption r (HoldPlan tables → ⊥) (λ p. p.tables ≡ tables) → is_none r ≡ true → HoldPlan tables → ⊥
+  plan_fails None fails e = fails
+  plan_fails (Some p) same e = let z : ◌≡◌ {A = ℕ} 0 1 = cc in absurd (omega arith)
+
+  pub plan_holds : (r : Option CheckedPlan) → MatchOption r (HoldPlan tables → ⊥) (λ p. p.tables ≡ tables) → is_none r ≡ false → HoldPlan tables
+  plan_holds (Some p) same e = subst HoldPlan same p.valid
+  plan_holds None fails e = let z : ◌≡◌ {A = ℕ} 0 1 = cc in absurd (omega arith)
 
 pub freed_place : (contacts : List ℕ) (m : ℕ) (ranges : List ℕ) (n : ℕ) (book chains : List ℕ) → IsPlan contacts m ranges n → IsBook m book chains
     → (place : ℕ) → OpenAt contacts m ranges n book chains place → (book' : List ℕ) → book' ≡ freed book (place - 1)
