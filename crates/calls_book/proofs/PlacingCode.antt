@@ -13,7 +13,7 @@ use Prim.Native.Nat.{ℕ, suc, ◌+◌, ◌-◌, ◌≤◌}
 use native.Mathlib.Omega.{arith}
 use lib.ListN.{length, take}
 use Rattle.std.proofs.Math.Path.{transport}
-use Rattle.std.specs.Prelude.{true, false, Option, Some, None, not, is_some, MatchOption, Result, Ok, Err}
+use Rattle.std.specs.Prelude.{true, false, Option, Some, None, is_some, MatchOption, Result, Ok, Err}
 use Rattle.units.specs.Limits.{most_chain}
 use Rattle.units.specs.declared.Ask.{Ask}
 use Rattle.units.specs.declared.Refusal.{Refusal}
@@ -119,11 +119,11 @@ front_entered book k ask class chain book' bytes e stored = stored ∙ ap (λ (x
 
 -- lent tables that were tried as a plan
 module _ (tables : PlanTables) where
-  pub plan_fails : (r : Option CheckedPlan) → MatchOption r (HoldPlan tables → ⊥) (λ p. p.tables ≡ tables) → not (is_some r) ≡ true → HoldPlan tables → ⊥
+  pub plan_fails : (r : Option CheckedPlan) → MatchOption r (HoldPlan tables → ⊥) (λ p. p.tables ≡ tables) → is_some r ≡ false → HoldPlan tables → ⊥
   plan_fails None fails e = fails
   plan_fails (Some p) same e = let z : ◌≡◌ {A = ℕ} 0 1 = cc in absurd (omega arith)
 
-  pub plan_holds : (r : Option CheckedPlan) → MatchOption r (HoldPlan tables → ⊥) (λ p. p.tables ≡ tables) → not (is_some r) ≡ false → HoldPlan tables
+  pub plan_holds : (r : Option CheckedPlan) → MatchOption r (HoldPlan tables → ⊥) (λ p. p.tables ≡ tables) → is_some r ≡ true → HoldPlan tables
   plan_holds (Some p) same e = subst HoldPlan same p.valid
   plan_holds None fails e = let z : ◌≡◌ {A = ℕ} 0 1 = cc in absurd (omega arith)
 

@@ -41,34 +41,34 @@ returns-in_err-figures c =
     let all = rw c.in_ok-call.was at c.checks.ensures in
     let p = err_from_is_err_and c.from_residual-in_err-figures.result c.from_residual-in_err-figures.ensures.1 in
     rw (p.1, p.2)
-    (refused_route (checked_holds all) (checked_good all) _ c.if-chain-lt-MOST_CHAIN.false (sym c.in_err-figures.was ∙ c.route_good.ensures.answer)
-    c.route_good.ensures.after)
+    (refused_route (checked_holds all) (checked_good all) _ c.if-chain-lt-MOST_CHAIN.false (sym c.in_err-figures.was ∙ c.route_good.ensures.best)
+    c.route_good.ensures.chain)
 
 pub slice_bounds-book_chain-end : goal.slice_bounds-book_chain-end
 unfolding most_chain
 slice_bounds-book_chain-end c =
     let all = rw c.in_ok-call.was at c.checks.ensures in
-    counted (checked_holds all) (checked_good all) _ c.if-chain-lt-MOST_CHAIN.false (sym c.in_ok-figures.was ∙ c.route_good.ensures.answer)
-    c.route_good.ensures.after
+    counted (checked_holds all) (checked_good all) _ c.if-chain-lt-MOST_CHAIN.false (sym c.in_ok-figures.was ∙ c.route_good.ensures.best)
+    c.route_good.ensures.chain
 
 pub slice_bounds-book_chain-end-2 : goal.slice_bounds-book_chain-end-2
 unfolding most_chain
 slice_bounds-book_chain-end-2 c =
     let all = rw c.in_ok-call.was at c.checks.ensures in
     sym (length-take-le _ _
-    (counted (checked_holds all) (checked_good all) _ c.if-chain-lt-MOST_CHAIN.false (sym c.in_ok-figures.was ∙ c.route_good.ensures.answer)
-    c.route_good.ensures.after))
+    (counted (checked_holds all) (checked_good all) _ c.if-chain-lt-MOST_CHAIN.false (sym c.in_ok-figures.was ∙ c.route_good.ensures.best)
+    c.route_good.ensures.chain))
 
 pub book_chain-requires : goal.book_chain-requires
 unfolding most_chain
 book_chain-requires c =
     let all = rw c.in_ok-call.was at c.checks.ensures in
-    bookable (checked_holds all) (checked_good all) _ c.if-chain-lt-MOST_CHAIN.false (sym c.in_ok-figures.was ∙ c.route_good.ensures.answer)
-    c.route_good.ensures.after (MatchOption-at_some _ _ _ c.in-Some.is c.lowest_free.ensures)
+    bookable (checked_holds all) (checked_good all) _ c.if-chain-lt-MOST_CHAIN.false (sym c.in_ok-figures.was ∙ c.route_good.ensures.best)
+    c.route_good.ensures.chain (MatchOption-at_some _ _ _ c.in-Some.is c.lowest_free.ensures)
 
 pub returns : goal.returns
 unfolding most_chain
 returns c =
     let all = rw c.in_ok-call.was at c.checks.ensures in
-    placed_route (checked_holds all) (checked_good all) _ c.if-chain-lt-MOST_CHAIN.false (sym c.in_ok-figures.was ∙ c.route_good.ensures.answer)
-    c.route_good.ensures.after (MatchOption-at_some _ _ _ c.in-Some.is c.lowest_free.ensures) c.book_chain.ensures.places c.book_chain.ensures.chains
+    placed_route (checked_holds all) (checked_good all) _ c.if-chain-lt-MOST_CHAIN.false (sym c.in_ok-figures.was ∙ c.route_good.ensures.best)
+    c.route_good.ensures.chain (MatchOption-at_some _ _ _ c.in-Some.is c.lowest_free.ensures) c.book_chain.ensures.places c.book_chain.ensures.chains

@@ -11,7 +11,7 @@ unfolding most_chain
 route_good-requires c = omega arith
 
 pub returns-in-Err : goal.returns-in-Err
-returns-in-Err c = refuse_any c.args.call.now (sym c.in-Err.is ∙ c.route_good.ensures.answer)
+returns-in-Err c = refuse_any c.args.call.now (sym c.in-Err.is ∙ c.route_good.ensures.best)
 
 pub returns-in-Ok : goal.returns-in-Ok
-returns-in-Ok c = full_any c.args.call.now c.requires (sym c.in-Ok.is ∙ c.route_good.ensures.answer)
+returns-in-Ok c = full_any c.args.call.now c.requires (sym c.in-Ok.is ∙ c.route_good.ensures.best)
