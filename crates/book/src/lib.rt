@@ -7,6 +7,8 @@
 mod bookings;
 mod books;
 mod places;
+mod tables;
 
 pub use books::{Book, is_book, spend};
 pub use places::{FREE, OPEN, PLACE_WORDS, is_open, mark_of};
+pub use tables::BookTables;
