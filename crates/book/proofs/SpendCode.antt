@@ -1,23 +1,25 @@
 -- What the code knows that takes the bookings of all places from what is left on the contacts.
---     place_closed, place_lower, place_taken   what a place takes: nothing where it is not open or its class is lower, else its booking
+--     booking_lower, booking_taken             what a booking takes: nothing where its class is lower, else from its chain
+--     place_closed, place_open                 what a place takes: nothing where it is not open, else what its booking takes
 --     places_none, places_more, places_all     what no place takes, one place more, and all of them
---     place_spendable                          each contact of an open place has a word
+--     place_fits, place_read              each contact of an open place has a word, and its chain is no longer than a chain can be
 -- Assumes nothing.
-use mathlib.Core.Bool.{Bool, true, false}
+use mathlib.Core.Bool.{false}
 use mathlib.Core.List.{List}
 use mathlib.Core.Path.{◌≡◌, refl, sym, ap, ◌∙◌}
-use Prim.Native.Nat.{ℕ, suc, ◌+◌, ◌-◌, ◌*◌, ◌≤◌, ◌<◌}
+use Prim.Native.Nat.{ℕ, suc, ◌+◌, ◌-◌, ◌≤◌, ◌<◌}
 use native.Mathlib.Nat.{sub-zero, zero-add}
 use native.Mathlib.Numerals.{add-one}
 use native.Mathlib.Omega.{arith}
-use borrow.Author.Tests.{le-leb, lt-leb}
-use lib.Dec.{eqb}
+use borrow.Author.Tests.{le-leb, lt-leb, ne_eqb}
+use lib.Dec.{leb}
 use lib.ListN.{length, get_or}
 use Rattle.units.specs.Limits.{most_chain, most_places}
 use Rattle.plan.specs.Plan.{Each}
-use Rattle.book.specs.Book.{taken, used}
-use Rattle.book.specs.Model.{contacts_at, Spendable, Spent, once, taken_at}
-use Rattle.book.specs.Tables.{place_words, open_mark, mark_at, count_at, bookings_from, book_of, IsBook}
+use Rattle.plan.proofs.Verdicts.{tells_le, false_fails}
+use Rattle.book.specs.Book.{Booking, taken, used}
+use Rattle.book.specs.Model.{HasWord, Spent, once, taken_at}
+use Rattle.book.specs.Tables.{open_mark, mark_at, count_at, booking_at, bookings_from, book_of, IsBook}
 use Rattle.book.proofs.UsesLaws.{used_last}
 use Rattle.book.proofs.PlaceLaws.{booking_few, booking_of_lem}
 
@@ -33,23 +35,24 @@ spent_as f g before after same spent = record {
 spend_nothing : (f : ℕ → ℕ) (lefts : List ℕ) → ((c : ℕ) → 0 ≡ f c) → Spent f lefts lefts
 spend_nothing f lefts none = spent_as (λ c. 0) f lefts lefts none (record { same_length = refl; lefts = λ i h. sym (sub-zero (get_or lefts i 0)) })
 
--- b tells whether the place is open
-module _ (t u : List ℕ) (k class : ℕ) (lefts : List ℕ) (b : Bool) (told : b ≡ eqb (mark_at t k) open_mark) where
-  pub place_closed : b ≡ false → Spent (taken_at t u k class) lefts lefts
+-- a booking of a lower class, and of that class or a higher one
+module _ (b : Booking) (class : ℕ) (lefts : List ℕ) where
+  pub booking_lower : b.class < class → Spent (taken b class) lefts lefts
+  unfolding taken
+  booking_lower h = spend_nothing (taken b class) lefts (λ c. rw (lt-leb class b.class h))
+
+  pub booking_taken : class ≤ b.class → (after : List ℕ) → Spent (once b.chain b.consumption) lefts after → Spent (taken b class) lefts after
+  unfolding taken
+  booking_taken h after spent = spent_as (once b.chain b.consumption) (taken b class) lefts after (λ c. rw (le-leb class b.class h)) spent
+
+module _ (t u : List ℕ) (k class : ℕ) (lefts : List ℕ) where
+  pub place_closed : (mark_at t k ≡ open_mark → ⊥) → Spent (taken_at t u k class) lefts lefts
   unfolding taken_at
-  place_closed e = spend_nothing (taken_at t u k class) lefts (λ c. rw (sym told ∙ e))
+  place_closed shut = spend_nothing (taken_at t u k class) lefts (λ c. rw (ne_eqb (mark_at t k) open_mark shut))
 
-  module _ (e : b ≡ true) (has : ℕ) (ec : has ≡ get_or t (k * place_words + 1) 0) where
-    pub place_lower : has < class → Spent (taken_at t u k class) lefts lefts
-    unfolding taken_at taken
-    place_lower h = spend_nothing (taken_at t u k class) lefts (λ c. rw (sym told ∙ e, lt-leb class (get_or t (k * place_words + 1) 0) (omega arith)))
-
-    pub place_taken : class ≤ has → (n amount : ℕ) → n ≡ count_at t k → amount ≡ get_or t (k * place_words + 2) 0 → (after : List ℕ)
-        → Spent (once (contacts_at u k n) amount) lefts after → Spent (taken_at t u k class) lefts after
-    unfolding taken_at taken
-    place_taken h n amount en ea after spent =
-        spent_as (once (contacts_at u k n) amount) (taken_at t u k class) lefts after
-        (λ c. rw (sym told ∙ e, le-leb class (get_or t (k * place_words + 1) 0) (omega arith), en, ea)) spent
+  pub place_open : mark_at t k ≡ open_mark → (after : List ℕ) → Spent (taken (booking_at t u k) class) lefts after → Spent (taken_at t u k class) lefts after
+  unfolding taken_at
+  place_open e after spent = spent_as (taken (booking_at t u k) class) (taken_at t u k class) lefts after (λ c. rw e) spent
 
 -- ---- all places
 
@@ -76,14 +79,15 @@ module _ (t u : List ℕ) (class : ℕ) (before : List ℕ) where
   unfolding book_of
   places_all k after e spent = rw e at spent
 
-pub place_spendable : (m : ℕ) (t u : List ℕ) → IsBook m t u → (k : ℕ) → k < most_places → (lefts : List ℕ) → m ≤ length lefts → mark_at t k ≡ open_mark
-    → Spendable t u lefts k
-unfolding most_places most_chain Each
-place_spendable m t u book k h lefts long e =
-    let good = booking_of_lem m t u k e (book.places_good k h) in
-    record {
-      there = omega (arith, book.chains_lent, booking_few m t u k good);
-      fits = λ blank i l.
-          let named = good.named blank i l in
-          record { least = named.least; most = omega (arith, named.most, long) };
-    }
+pub place_fits : (m : ℕ) (t u : List ℕ) → IsBook m t u → (k : ℕ) → k < most_places → (lefts : List ℕ) → m ≤ length lefts → mark_at t k ≡ open_mark
+    → Each (HasWord lefts) (booking_at t u k).chain
+unfolding Each
+place_fits m t u book k h lefts long e =
+    λ blank i l.
+    let named = (booking_of_lem m t u k e (book.places_good k h)).named blank i l in
+    record { least = named.least; most = omega (arith, named.most, long) }
+
+pub place_read : (m : ℕ) (t u : List ℕ) → IsBook m t u → (k : ℕ) → k < most_places → mark_at t k ≡ open_mark → false ≡ leb (count_at t k) most_chain → ⊥
+place_read m t u book k h e long =
+    let few = booking_few m t u k (booking_of_lem m t u k e (book.places_good k h)) in
+    false_fails (tells_le (count_at t k) most_chain) (sym long) few

@@ -1,3 +1,4 @@
 pub mod Book
 pub mod Model
+pub mod OneProof
 pub mod Tables

@@ -1,29 +1,17 @@
 -- What the contracts of single steps speak of. A reader of the promises may skip it.
---     contacts_at      the first contacts of the chain in a place
 --     HasWord         a contact has a word among those of what is left
---     Spendable       the chain in a place is there, and each of its contacts has a word
 --     Spent           so much of each contact is taken from its word, and 0 is left where more is taken
 --     once            so many bytes of each contact that a chain names, however often it names it
 --     taken_at         the bytes that the booking in a place takes of a contact from a class, and none where the place is free
 -- Assumes nothing.
-use Rattle.std.specs.Prelude.{cond, List, ◌≡◌, ℕ, suc, ◌+◌, ◌-◌, ◌*◌, ◌≤◌, ◌<◌, eqb, length, get_or}
-use Rattle.units.specs.Limits.{most_chain}
-use Rattle.plan.specs.Plan.{Each}
-use Rattle.plan.specs.Tables.{rows_from}
+use Rattle.std.specs.Prelude.{cond, List, ◌≡◌, ℕ, suc, ◌-◌, ◌≤◌, ◌<◌, eqb, length, get_or}
 use Rattle.book.specs.Book.{names, taken}
-use Rattle.book.specs.Tables.{open_mark, mark_at, count_at, booking_at}
-
-abbrev pub contacts_at : List ℕ → ℕ → ℕ → List ℕ
-contacts_at u k n = rows_from (λ i. get_or u (k * most_chain + i) 0) 0 n
+use Rattle.book.specs.Tables.{open_mark, mark_at, booking_at}
 
 -- contacts are numbered from 1, words from 0
 pub record HasWord (lefts : List ℕ) (c : ℕ) : Type 0 where
   pub least : 1 ≤ c
   pub most : c ≤ length lefts
-
-pub record Spendable (t u lefts : List ℕ) (k : ℕ) : Type 0 where
-  pub there : k * most_chain + count_at t k ≤ length u
-  pub fits : Each (HasWord lefts) (booking_at t u k).chain
 
 pub record Spent (less : ℕ → ℕ) (before after : List ℕ) : Type 0 where
   pub same_length : length after ≡ length before

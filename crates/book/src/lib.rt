@@ -4,10 +4,11 @@
 
 #![tactic(auto)]
 
+mod bookings;
+mod books;
 mod places;
-mod spending;
-mod valid;
+mod tables;
 
+pub use books::{Book, is_book, spend};
 pub use places::{FREE, OPEN, PLACE_WORDS, is_open, mark_of};
-pub use spending::spend;
-pub use valid::is_book;
+pub use tables::BookTables;

@@ -1,5 +1,4 @@
 -- What a caller of the functions knows.
---     place_lowest, place_none      a free place was found, or none is free
 --     all_open                      where none is free each place of a good book is open
 --     chain_fits                    a good booking can be entered in each place of a good book
 -- Assumes nothing.
@@ -11,17 +10,9 @@ use Rattle.units.specs.Limits.{most_places}
 use Rattle.plan.specs.Plan.{Each}
 use Rattle.book.specs.Book.{Booking, GoodBooking}
 use Rattle.book.specs.Tables.{open_mark, mark_at, GoodPlace, free_place, open_place, IsBook}
-use Rattle.book_keeping.specs.Keeping.{IsLowestFree, AllOpen}
-use Rattle.book_keeping.specs.Model.{FreePlace, lowest, none_free, ChainFits}
+use Rattle.book_keeping.specs.Keeping.{AllOpen}
+use Rattle.book_keeping.specs.Model.{ChainFits}
 use Rattle.book_keeping.proofs.SamePlace.{chain_there}
-
-pub place_lowest : {t : List ℕ} {k : ℕ} → FreePlace t k → (k ≡ most_places → ⊥) → IsLowestFree t k
-place_lowest (lowest is) found = is
-place_lowest (none_free e all) found = absurd (found e)
-
-pub place_none : {t : List ℕ} {k : ℕ} → FreePlace t k → k ≡ most_places → AllOpen t
-place_none (lowest is) e = absurd (omega (arith, is.inside))
-place_none (none_free _ all) e = all
 
 pub all_open : (m : ℕ) (t u : List ℕ) → IsBook m t u → AllOpen t → (j : ℕ) → j < most_places → mark_at t j ≡ open_mark
 unfolding AllOpen

@@ -22,14 +22,14 @@ module _ (u : List ℕ) (k : ℕ) (chain : List ℕ) where
   stored_none = record { few = omega arith; stored = paste-zero u (k * most_chain) chain }
 
   module _ (there : k * most_chain + length chain ≤ length u) (n : ℕ) (w : List ℕ) (so_far : Stored u k chain n w) where
-    pub stored_long : length w ≡ length u
+    stored_long : length w ≡ length u
     stored_long = ap length so_far.stored ∙ length-paste u (k * most_chain) chain n (omega (arith, so_far.few)) so_far.few
 
-    pub stored_more : n < length chain → (x : ℕ) → x ≡ get_or chain n 0 → Stored u k chain (n + 1) (set w (k * most_chain + n) x)
-    stored_more h x e = record {
+    pub stored_more : n < length chain → Stored u k chain (n + 1) (set w (k * most_chain + n) (get_or chain n 0))
+    stored_more h = record {
       few = omega arith;
       stored =
-          ap (λ (l : List ℕ). set l (k * most_chain + n) x) so_far.stored ∙ ap (set (paste u (k * most_chain) chain n) (k * most_chain + n)) e
+          ap (λ (l : List ℕ). set l (k * most_chain + n) (get_or chain n 0)) so_far.stored
           ∙ paste-suc u (k * most_chain) chain n 0 (omega arith) h ∙ ap (paste u (k * most_chain) chain) (sym (add-one n));
     }
 

@@ -1,11 +1,13 @@
 -- The tables with a booking entered, and with a place freed, as the stores that make them.
 --     entered_sets, chain_sets, freed_set      each as its stores
+--     entered_part                             the four words of a booking, stored at once
 -- Assumes nothing.
 use mathlib.Core.List.{List, [], ◌∷◌, ◌++◌, append_assoc}
 use mathlib.Core.Path.{◌≡◌, sym, ap, ◌∙◌}
-use Prim.Native.Nat.{ℕ, ◌+◌, ◌*◌, ◌≤◌}
+use Prim.Native.Nat.{ℕ, ◌+◌, ◌-◌, ◌*◌, ◌≤◌}
 use native.Mathlib.Numerals.{add-one}
 use native.Mathlib.Omega.{arith}
+use borrow.Rule.Slice.PartMut.{put_mid, Post-is}
 use lib.ListN.{length, take, drop, set}
 use lib.Seq.{sets, sets-eq, set_split}
 use Rattle.units.specs.Limits.{most_chain}
@@ -27,6 +29,14 @@ module _ (t : List ℕ) (k : ℕ) (there : k * place_words + place_words ≤ len
   freed_set =
       set_split t (k * place_words) free_mark (omega arith)
       ∙ ap (λ (n : ℕ). take (k * place_words) t ++ (free_mark ∷ drop n t)) (sym (add-one (k * place_words)))
+
+  -- the four words written into their part of the table
+  pub entered_part : (b : Booking) (words : List ℕ) → words ≡ words_of b
+      → put_mid (k * place_words) (k * place_words + place_words - k * place_words) t words ≡ entered t k b
+  unfolding entered
+  entered_part b words e =
+      ap (λ (w : List ℕ). put_mid (k * place_words) (k * place_words + place_words - k * place_words) t w) e
+      ∙ ap (λ (rest : List ℕ). take (k * place_words) t ++ (words_of b ++ rest)) (Post-is (k * place_words) (k * place_words + place_words) t (omega arith))
 
 pub chain_sets : (u : List ℕ) (k : ℕ) (chain : List ℕ) → k * most_chain + length chain ≤ length u
     → sets u (k * most_chain) chain ≡ entered_chain u k chain

@@ -1,6 +1,5 @@
 -- A run of stores into a list, element by element.
 --     sets_outside, sets_inside      an element beside the run, and one of it
---     four_sets                      a run of four
 -- Assumes nothing.
 use mathlib.Core.List.{List, [], ◌∷◌}
 use mathlib.Core.Path.{◌≡◌, refl, sym, ap, ◌∙◌}
@@ -31,11 +30,3 @@ module _ {A : Type 0} where
   sets_inside (a ∷ vs) l i (suc n) d fits h =
       ap (λ (j : ℕ). get_or (sets (set l i a) (suc i) vs) j d) (add-suc i n ∙ sym (suc-add i n))
       ∙ sets_inside vs (set l i a) (suc i) n d (simp length-set (omega arith)) (le_of_suc-le-suc h)
-
--- four stores one after the other are a run
-pub four_sets : (l : List ℕ) (i a b c d : ℕ) → set (set (set (set l i a) (i + 1) b) (i + 2) c) (i + 3) d ≡ sets l i (a ∷ b ∷ c ∷ d ∷ [])
-four_sets l i a b c d =
-    let one : i + 1 ≡ suc i = omega arith in
-    let two : i + 2 ≡ suc (suc i) = omega arith in
-    let three : i + 3 ≡ suc (suc (suc i)) = omega arith in
-    rw (one, two, three)

@@ -8,19 +8,18 @@ ghost use Rattle.book_keeping.specs.Model.{FreePlace};
 use book::{FREE, PLACE_WORDS, mark_of};
 use units::MOST_PLACES;
 
-// The lowest free place, counted from 0, or 256 where all are open.
-pub fn lowest_free(book: &[u64]) -> usize
+// The lowest free place, counted from 0, or nothing where all are open.
+#[tactic(auto, unfolding(units::specs::Limits::most_places))]
+pub fn lowest_free(book: &[u64]) -> Option<usize>
     requires { most_places * place_words ≤ length book.now }
     ensures { FreePlace book.now result }
 {
-    let mut k = 0;
-    while k < MOST_PLACES {
+    for k in 0..MOST_PLACES {
         if mark_of(book, k) == FREE {
-            return k;
+            return Some(k);
         }
-        k += 1;
     }
-    k
+    None
 }
 
 // Marks place k as free.

@@ -1,48 +1,32 @@
 // The checks that come before every call over a plan with its book.
-ghost use Rattle.calls.specs.Booked.{Checked};
+ghost use Rattle.calls.specs.Checks.{Checked};
 
-use book::is_book;
-use plan_valid::is_plan;
-use units::{Ask, MOST_CLASS, Refusal};
-use walk::is_good_ask;
+use crate::call::CheckedCall;
+use book::{Book, BookTables};
+use plan::PlanTables;
+use plan_valid::CheckedPlan;
+use units::{Ask, CheckedAsk, MOST_CLASS, Refusal, is_good_ask};
 
-// A refusal, or nothing that stands against the call.
-#[derive(Clone, Copy)]
-pub enum Check {
-    Stop(Refusal),
-    Go,
-}
-
-// Plan, book, ask, class and the two nodes, in this order.
-pub fn checks(
-    contacts: &[u64],
-    contact_count: usize,
-    ranges: &[u64],
-    range_count: usize,
-    book: &[u64],
-    chains: &[u16],
+// Plan, book, ask, class and the two nodes, in this order: what was checked, or why the call is refused.
+pub fn checks<'a>(
+    tables: PlanTables<'a>,
+    booked: BookTables<'a>,
     ask: Ask,
     class: u64,
-) -> Check
-    ensures { Checked contacts.now contact_count ranges.now range_count book.now chains.now ask class result }
+) -> Result<CheckedCall<'a>, Refusal>
+    ensures { Checked tables.entry.contacts.now tables.entry.contact_count tables.entry.ranges.now tables.entry.range_count booked.entry.places.now booked.entry.chains.now ask class result }
 {
-    if !is_plan(contacts, contact_count, ranges, range_count) {
-        return Check::Stop(Refusal::NoPlan);
-    }
-    if !is_book(book, chains, contact_count) {
-        return Check::Stop(Refusal::NoPlan);
-    }
+    let plan = CheckedPlan::of(tables).ok_or(Refusal::NoPlan)?;
+    let book = Book::checked(booked.places, booked.chains, tables.contact_count).ok_or(Refusal::NoPlan)?;
     if !is_good_ask(ask) {
-        return Check::Stop(Refusal::AskValue);
+        return Err(Refusal::AskValue);
     }
-    if class < 1 {
-        return Check::Stop(Refusal::BadClass);
+    if class < 1 || MOST_CLASS < class {
+        return Err(Refusal::BadClass);
     }
-    if MOST_CLASS < class {
-        return Check::Stop(Refusal::BadClass);
+    if ask.source == ask.destination {
+        return Err(Refusal::SameNode);
     }
-    if ask.source.0 == ask.destination.0 {
-        return Check::Stop(Refusal::SameNode);
-    }
-    Check::Go
+    let ask = CheckedAsk { asked: ask };
+    Ok(CheckedCall { plan, book, ask, class })
 }

@@ -3,11 +3,13 @@
 
 #![tactic(auto)]
 
+mod call;
 mod checking;
 mod routes;
 mod serving;
 mod walks;
 
-pub use checking::{Check, checks};
+pub use call::CheckedCall;
+pub use checking::checks;
 pub use routes::{route_booked, route_good};
 pub use walks::walk_booked;

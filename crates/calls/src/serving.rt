@@ -1,29 +1,26 @@
 // The plan with its book made ready to serve a class.
-ghost use Rattle.std.specs.Prelude.{◌≡◌, ◌≤◌, length};
-ghost use Rattle.units.specs.Limits.{most_contacts};
-ghost use Rattle.plan.specs.Tables.{IsPlan, plan_of};
-ghost use Rattle.service.specs.Tables.{served};
-ghost use Rattle.book.specs.Tables.{IsBook, book_of};
-ghost use Rattle.calls.specs.Booked.{with_book};
+ghost use Rattle.std.specs.Prelude.{◌≡◌};
+ghost use Rattle.service.specs.Held.{service_in};
+ghost use Rattle.calls.specs.Checks.{service_for};
 
-use book::spend;
-use service::serve;
+use crate::call::CheckedCall;
+use service::{ServedPlan, serve};
+use units::MOST_CONTACTS;
 
-// Fills the tables with the plan as it serves the class.
-pub fn serve_booked(
-    contacts: &[u64],
-    contact_count: usize,
-    ranges: &[u64],
-    range_count: usize,
-    book: &[u64],
-    chains: &[u16],
-    class: u64,
-    lights: &mut [u32],
-    lefts: &mut [u64],
-)
-    requires { IsPlan contacts.now contact_count ranges.now range_count × IsBook contact_count book.now chains.now × (most_contacts ≤ length lights.old) × (most_contacts ≤ length lefts.old) }
-    ensures { (served contacts.now contact_count lights.new lefts.new ≡ with_book (plan_of contacts.now contact_count ranges.now range_count) (book_of book.now chains.now) class) × (length lights.new ≡ length lights.old) × (length lefts.new ≡ length lefts.old) }
+// The plan as it serves the class, by way of the tables lent.
+pub fn serve_booked<'p: 'a, 'a>(
+    call: &CheckedCall<'p>,
+    lights: &'a mut [u32; MOST_CONTACTS],
+    lefts: &'a mut [u64; MOST_CONTACTS],
+) -> ServedPlan<'a>
+    ensures { service_in result ≡ service_for call.now }
 {
-    serve(contacts, contact_count, ranges, range_count, lights, lefts);
-    spend(book, chains, contact_count, class, lefts);
+    serve(&call.plan, lights, lefts);
+    call.book.spend(call.class, lefts);
+    ServedPlan {
+        contacts: call.plan.tables.contacts,
+        contact_count: call.plan.tables.contact_count,
+        lights,
+        lefts,
+    }
 }

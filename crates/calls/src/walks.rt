@@ -1,117 +1,39 @@
 // The public call `walk_booked`: a given chain timed over a plan with its book.
-ghost use Rattle.std.specs.Prelude.{◌≡◌, ◌≤◌, length};
-ghost use Rattle.units.specs.Limits.{most_contacts};
-ghost use Rattle.plan.specs.Tables.{plan_of};
-ghost use Rattle.book.specs.Tables.{book_of};
+ghost use Rattle.std.specs.Prelude.{◌≡◌};
 ghost use Rattle.walk.specs.Model.{walk_model};
-ghost use Rattle.calls.specs.Booked.{with_book, Good};
 ghost use Rattle.calls.specs.Calls.{WalksBooked};
+ghost use Rattle.calls.specs.Checks.{service_for};
 
-use crate::checking::{Check, checks};
+use crate::call::CheckedCall;
+use crate::checking::checks;
 use crate::serving::serve_booked;
+use book::BookTables;
+use plan::PlanTables;
 use service::{BLANK_LEFT, BLANK_LIGHT};
-use units::{Ask, MOST_CONTACTS};
-use walk::{Walked, walk_served};
+use units::{Ask, MOST_CONTACTS, Refusal};
+use walk::{Figures, walk_served};
 
-// The answer where all is good, by way of a table of light times and of what is left.
-fn walk_through(
-    contacts: &[u64],
-    contact_count: usize,
-    ranges: &[u64],
-    range_count: usize,
-    book: &[u64],
-    chains: &[u16],
-    ask: Ask,
-    class: u64,
-    chain: &[u64],
-    lights: &mut [u32],
-    lefts: &mut [u64],
-) -> Walked
-    requires { Good contacts.now contact_count ranges.now range_count book.now chains.now ask class × (most_contacts ≤ length lights.old) × (most_contacts ≤ length lefts.old) }
-    ensures { result ≡ walk_model (with_book (plan_of contacts.now contact_count ranges.now range_count) (book_of book.now chains.now) class) ask chain.now }
-{
-    serve_booked(
-        contacts,
-        contact_count,
-        ranges,
-        range_count,
-        book,
-        chains,
-        class,
-        lights,
-        lefts,
-    );
-    walk_served(contacts, contact_count, lights, lefts, ask, chain)
-}
-
-// The same, with that table on the stack.
-fn walk_good(
-    contacts: &[u64],
-    contact_count: usize,
-    ranges: &[u64],
-    range_count: usize,
-    book: &[u64],
-    chains: &[u16],
-    ask: Ask,
-    class: u64,
-    chain: &[u64],
-) -> Walked
-    requires { Good contacts.now contact_count ranges.now range_count book.now chains.now ask class }
-    ensures { result ≡ walk_model (with_book (plan_of contacts.now contact_count ranges.now range_count) (book_of book.now chains.now) class) ask chain.now }
+// The answer for a checked call: the light times and what is left of its contacts stand on the stack.
+fn walk_good(call: &CheckedCall, chain: &[u64]) -> Result<Figures, Refusal>
+    ensures { result ≡ walk_model (service_for call.now) call.now.ask.asked chain.now }
 {
     let mut lights = [BLANK_LIGHT; MOST_CONTACTS];
     let mut lefts = [BLANK_LEFT; MOST_CONTACTS];
-    walk_through(
-        contacts,
-        contact_count,
-        ranges,
-        range_count,
-        book,
-        chains,
-        ask,
-        class,
-        chain,
-        &mut lights,
-        &mut lefts,
-    )
+    let service = serve_booked(call, &mut lights, &mut lefts);
+    walk_served(&service, call.ask, chain)
 }
 
 // Times the chain given for an ask of that class, over the plan and the book that the tables hold: its
 // figures, or why it is refused.
 pub fn walk_booked(
-    contacts: &[u64],
-    contact_count: usize,
-    ranges: &[u64],
-    range_count: usize,
-    book: &[u64],
-    chains: &[u16],
+    tables: PlanTables,
+    booked: BookTables,
     ask: Ask,
     class: u64,
     chain: &[u64],
-) -> Walked
-    ensures { WalksBooked contacts.now contact_count ranges.now range_count book.now chains.now ask class chain.now result }
+) -> Result<Figures, Refusal>
+    ensures { WalksBooked tables.entry.contacts.now tables.entry.contact_count tables.entry.ranges.now tables.entry.range_count booked.entry.places.now booked.entry.chains.now ask class chain.now result }
 {
-    match checks(
-        contacts,
-        contact_count,
-        ranges,
-        range_count,
-        book,
-        chains,
-        ask,
-        class,
-    ) {
-        Check::Stop(why) => Walked::Refused(why),
-        Check::Go => walk_good(
-            contacts,
-            contact_count,
-            ranges,
-            range_count,
-            book,
-            chains,
-            ask,
-            class,
-            chain,
-        ),
-    }
+    let call = checks(tables, booked, ask, class)?;
+    walk_good(&call, chain)
 }

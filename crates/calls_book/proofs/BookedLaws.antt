@@ -12,6 +12,7 @@ use mathlib.Core.Path.{◌≡◌, refl, ap, ◌∙◌}
 use Prim.Native.Nat.{ℕ, suc, ◌+◌, ◌-◌, ◌≤◌, ◌<◌}
 use native.Mathlib.Omega.{arith}
 use lib.ListN.{take}
+use Rattle.std.specs.Prelude.{Result, Ok, Err}
 use Rattle.units.specs.Limits.{most_places}
 use Rattle.units.specs.declared.Ask.{Ask}
 use Rattle.units.specs.declared.Refusal.{Refusal}
@@ -24,17 +25,13 @@ use Rattle.book_keeping.proofs.CallLaws.{all_open}
 use Rattle.book_keeping.proofs.KeepLaws.{used_entered, used_freed}
 use Rattle.book_keeping.proofs.SamePlace.{SamePlace, entered_open, entered_booking, entered_other, freed_free, freed_other}
 use Rattle.timing.specs.Hop.{consumed}
-use Rattle.walk.specs.declared.figures.Figures.{Figures}
 use Rattle.search.specs.Route.{no_chain, too_late, best}
-use Rattle.search.specs.declared.answer.Routed.{Routed}
-use Rattle.search.specs.declared.answer.Routed.TheVariants.{Refused as NotRouted}
-use Rattle.calls.specs.Booked.{Checked, no_plan, no_book, bad_ask, bad_class, same_node}
+use Rattle.search.specs.declared.answer.Best.{Best}
+use Rattle.calls.specs.Checks.{Checked, no_plan, no_book, bad_ask, bad_class, same_node}
 use Rattle.calls.specs.Calls.{RoutesBooked, short_chain, routed}
 use Rattle.calls.specs.Calls as Booked
-use Rattle.calls.specs.declared.checking.Check.TheVariants.{Stop}
 use Rattle.calls_book.specs.Placing.{booking_of, BooksRoute, not_routed, full, placed, Releases, released}
-use Rattle.calls_book.specs.declared.answers.Placed.TheVariants.{At, Refused as NotPlaced}
-use Rattle.calls_book.specs.declared.answers.Released.TheVariants.{Freed}
+use Rattle.calls_book.specs.declared.answers.Placed.{Placed}
 use Rattle.calls_book.proofs.ChosenLaws.{chosen_good, chosen_booking}
 
 -- place k, counted from 0, is open and holds a booking of that class, consumption and chain
@@ -56,7 +53,7 @@ back k = omega arith
 
 -- the checks do not tell 25
 module _ {contacts : List ℕ} {m : ℕ} {ranges : List ℕ} {n : ℕ} {t u : List ℕ} {ask : Ask} {class : ℕ} where
-  never_checked : {why : Refusal} → Checked contacts m ranges n t u ask class (Stop why) → why ≡ FullBook → ⊥
+  never_checked : {why : Refusal} → Checked contacts m ranges n t u ask class (Err why) → why ≡ FullBook → ⊥
   never_checked (no_plan f) e = let z : ◌≡◌ {A = ℕ} 0 1 = cc in omega arith
   never_checked (no_book p f) e = let z : ◌≡◌ {A = ℕ} 0 1 = cc in omega arith
   never_checked (bad_ask p b f) e = let z : ◌≡◌ {A = ℕ} 0 1 = cc in omega arith
@@ -64,8 +61,8 @@ module _ {contacts : List ℕ} {m : ℕ} {ranges : List ℕ} {n : ℕ} {t u : Li
   never_checked (same_node p b a c s) e = let z : ◌≡◌ {A = ℕ} 0 1 = cc in omega arith
 
 module _ {contacts : List ℕ} {m : ℕ} {ranges : List ℕ} {n : ℕ} {t u : List ℕ} {ask : Ask} {class : ℕ} {before : List ℕ} where
-  pub placed_place : {f : Figures} {count place : ℕ} {t' u' after : List ℕ}
-      → BooksRoute contacts m ranges n t u ask class before (At f count place) t' u' after → LowestFree t place
+  pub placed_place : {p : Placed} {t' u' after : List ℕ}
+      → BooksRoute contacts m ranges n t u ask class before (Ok p) t' u' after → LowestFree t p.place
   placed_place (placed {k} r low) = record {
     least = omega arith;
     most = low.inside;
@@ -80,60 +77,60 @@ module _ {contacts : List ℕ} {m : ℕ} {ranges : List ℕ} {n : ℕ} {t u : Li
           go (free_place f) = absurd (low.none_lower j h f)
           go (open_place o few g) = o
 
-  pub placed_holds : {f : Figures} {count place : ℕ} {t' u' after : List ℕ}
-      → BooksRoute contacts m ranges n t u ask class before (At f count place) t' u' after
-      → Holds t' u' (place - 1) class (consumed ask.size) (take count after)
-  placed_holds (placed {count} {k} {after} r low) =
-      let booking = booking_of ask class (take count after) in
+  pub placed_holds : {p : Placed} {t' u' after : List ℕ}
+      → BooksRoute contacts m ranges n t u ask class before (Ok p) t' u' after
+      → Holds t' u' (p.place - 1) class (consumed ask.size) (take p.count after)
+  placed_holds (placed {b} {k} {after} r low) =
+      let booking = booking_of ask class (take b.count after) in
       let there = entered_booking m t u (chosen_good r).its_book k low.inside booking (chosen_booking r) in
       rw (back k) (record {
         is_open = entered_open m t u (chosen_good r).its_book k low.inside booking (chosen_booking r);
-        its_class = ap (λ (b : Booking). b.class) there;
-        its_consumption = ap (λ (b : Booking). b.consumption) there;
-        its_chain = ap (λ (b : Booking). b.chain) there;
+        its_class = ap (λ (x : Booking). x.class) there;
+        its_consumption = ap (λ (x : Booking). x.consumption) there;
+        its_chain = ap (λ (x : Booking). x.chain) there;
       })
 
-  pub placed_others : {f : Figures} {count place : ℕ} {t' u' after : List ℕ}
-      → BooksRoute contacts m ranges n t u ask class before (At f count place) t' u' after
-      → (j : ℕ) → j < most_places → (j ≡ place - 1 → ⊥) → SamePlace t u t' u' j
-  placed_others (placed {count} {k} {after} r low) j h other =
-      entered_other m t u (chosen_good r).its_book k low.inside (booking_of ask class (take count after)) (chosen_booking r) j h (λ e. other (e ∙ there))
+  pub placed_others : {p : Placed} {t' u' after : List ℕ}
+      → BooksRoute contacts m ranges n t u ask class before (Ok p) t' u' after
+      → (j : ℕ) → j < most_places → (j ≡ p.place - 1 → ⊥) → SamePlace t u t' u' j
+  placed_others (placed {b} {k} {after} r low) j h other =
+      entered_other m t u (chosen_good r).its_book k low.inside (booking_of ask class (take b.count after)) (chosen_booking r) j h (λ e. other (e ∙ there))
     where
       there : k ≡ suc k - 1
       there = omega arith
 
   -- what is used of a contact once the route is booked
-  booked_adds : {f : Figures} {count place : ℕ} {t' u' after : List ℕ}
-      → BooksRoute contacts m ranges n t u ask class before (At f count place) t' u' after → (l c : ℕ)
-      → used (book_of t' u') l c ≡ taken (booking_of ask class (take count after)) l c + used (book_of t u) l c
-  booked_adds (placed {count} {k} {after} r low) l c =
-      used_entered m t u (chosen_good r).its_book k low.inside (booking_of ask class (take count after)) (chosen_booking r) low.is_free l c
+  booked_adds : {p : Placed} {t' u' after : List ℕ}
+      → BooksRoute contacts m ranges n t u ask class before (Ok p) t' u' after → (l c : ℕ)
+      → used (book_of t' u') l c ≡ taken (booking_of ask class (take p.count after)) l c + used (book_of t u) l c
+  booked_adds (placed {b} {k} {after} r low) l c =
+      used_entered m t u (chosen_good r).its_book k low.inside (booking_of ask class (take b.count after)) (chosen_booking r) low.is_free l c
 
-  pub booked_own : {f : Figures} {count place : ℕ} {t' u' after : List ℕ}
-      → BooksRoute contacts m ranges n t u ask class before (At f count place) t' u' after → (l c : ℕ) → l ≤ class → StandsIn (take count after) c
+  pub booked_own : {p : Placed} {t' u' after : List ℕ}
+      → BooksRoute contacts m ranges n t u ask class before (Ok p) t' u' after → (l c : ℕ) → l ≤ class → StandsIn (take p.count after) c
       → used (book_of t' u') l c ≡ consumed ask.size + used (book_of t u) l c
-  booked_own {count} {after} b l c h s =
-      booked_adds b l c ∙ ap (λ (x : ℕ). x + used (book_of t u) l c) (taken_own (booking_of ask class (take count after)) l c h s)
+  booked_own {p} {after} b l c h s =
+      booked_adds b l c ∙ ap (λ (x : ℕ). x + used (book_of t u) l c) (taken_own (booking_of ask class (take p.count after)) l c h s)
 
-  pub booked_higher : {f : Figures} {count place : ℕ} {t' u' after : List ℕ}
-      → BooksRoute contacts m ranges n t u ask class before (At f count place) t' u' after → (l c : ℕ) → class < l
+  pub booked_higher : {p : Placed} {t' u' after : List ℕ}
+      → BooksRoute contacts m ranges n t u ask class before (Ok p) t' u' after → (l c : ℕ) → class < l
       → used (book_of t' u') l c ≡ used (book_of t u) l c
-  booked_higher {count} {after} b l c h = omega (arith, booked_adds b l c, taken_higher (booking_of ask class (take count after)) l c h)
+  booked_higher {p} {after} b l c h = omega (arith, booked_adds b l c, taken_higher (booking_of ask class (take p.count after)) l c h)
 
-  pub booked_elsewhere : {f : Figures} {count place : ℕ} {t' u' after : List ℕ}
-      → BooksRoute contacts m ranges n t u ask class before (At f count place) t' u' after → (l c : ℕ) → (StandsIn (take count after) c → ⊥)
+  pub booked_elsewhere : {p : Placed} {t' u' after : List ℕ}
+      → BooksRoute contacts m ranges n t u ask class before (Ok p) t' u' after → (l c : ℕ) → (StandsIn (take p.count after) c → ⊥)
       → used (book_of t' u') l c ≡ used (book_of t u) l c
-  booked_elsewhere {count} {after} b l c n = omega (arith, booked_adds b l c, taken_elsewhere (booking_of ask class (take count after)) l c n)
+  booked_elsewhere {p} {after} b l c n = omega (arith, booked_adds b l c, taken_elsewhere (booking_of ask class (take p.count after)) l c n)
 
   -- and route does not
-  never_full : {r : Routed} {after : List ℕ} → RoutesBooked contacts m ranges n t u ask class before r after → r ≡ NotRouted FullBook → ⊥
+  never_full : {r : Result Best Refusal} {after : List ℕ} → RoutesBooked contacts m ranges n t u ask class before r after → r ≡ Err FullBook → ⊥
   never_full (short_chain h) e = let z : ◌≡◌ {A = ℕ} 0 1 = cc in omega arith
   never_full (Booked.not_routed l c) e = never_checked c cc
   never_full (routed l c (no_chain f)) e = let z : ◌≡◌ {A = ℕ} 0 1 = cc in omega arith
   never_full (routed l c (too_late a f)) e = let z : ◌≡◌ {A = ℕ} 0 1 = cc in omega arith
   never_full (routed l c (best b f)) e = let z : ◌≡◌ {A = ℕ} 0 1 = cc in omega arith
 
-  pub full_all_open : {t' u' after : List ℕ} → BooksRoute contacts m ranges n t u ask class before (NotPlaced FullBook) t' u' after
+  pub full_all_open : {t' u' after : List ℕ} → BooksRoute contacts m ranges n t u ask class before (Err FullBook) t' u' after
       → (j : ℕ) → j < most_places → mark_at t j ≡ open_mark
   full_all_open (not_routed r) = absurd (never_full r refl)
   full_all_open (full r all) = all_open m t u (chosen_good r).its_book all
@@ -141,22 +138,22 @@ module _ {contacts : List ℕ} {m : ℕ} {ranges : List ℕ} {n : ℕ} {t u : Li
 -- ---- a release
 
 module _ {contacts : List ℕ} {m : ℕ} {ranges : List ℕ} {n : ℕ} {t u : List ℕ} {place : ℕ} {t' : List ℕ}
-    (r : Releases contacts m ranges n t u place Freed t') where
+    (r : Releases contacts m ranges n t u place (Ok tt) t') where
   pub released_place : (mark_at t (place - 1) ≡ open_mark) × (mark_at t' (place - 1) ≡ free_mark)
   released_place = go r
     where
-      go : {s : List ℕ} → Releases contacts m ranges n t u place Freed s → (mark_at t (place - 1) ≡ open_mark) × (mark_at s (place - 1) ≡ free_mark)
+      go : {s : List ℕ} → Releases contacts m ranges n t u place (Ok tt) s → (mark_at t (place - 1) ≡ open_mark) × (mark_at s (place - 1) ≡ free_mark)
       go (released p b o) = (o.is_open, freed_free t (place - 1) (place_there m t u b (place - 1) (omega (arith, o.least, o.most))))
 
   pub released_others : (j : ℕ) → (j ≡ place - 1 → ⊥) → SamePlace t u t' u j
   released_others j other = go r
     where
-      go : {s : List ℕ} → Releases contacts m ranges n t u place Freed s → SamePlace t u s u j
+      go : {s : List ℕ} → Releases contacts m ranges n t u place (Ok tt) s → SamePlace t u s u j
       go (released p b o) = freed_other t (place - 1) (place_there m t u b (place - 1) (omega (arith, o.least, o.most))) u j other
 
   pub released_use : (l c : ℕ) → used (book_of t u) l c ≡ taken (booking_at t u (place - 1)) l c + used (book_of t' u) l c
   released_use l c = go r
     where
-      go : {s : List ℕ} → Releases contacts m ranges n t u place Freed s
+      go : {s : List ℕ} → Releases contacts m ranges n t u place (Ok tt) s
           → used (book_of t u) l c ≡ taken (booking_at t u (place - 1)) l c + used (book_of s u) l c
       go (released p b o) = used_freed m t u b (place - 1) (omega (arith, o.least, o.most)) o.is_open l c

@@ -20,7 +20,7 @@ use Rattle.units.specs.Limits.{most_consumption, most_size}
 use Rattle.units.specs.declared.Ask.{Ask}
 use Rattle.units.specs.declared.Millis.{Millis}
 use Rattle.plan.specs.declared.rows.Contact.{Contact}
-use Rattle.std.specs.Prelude.{Option, Some, None}
+use Rattle.std.specs.Prelude.{Option, Some, None, Ok}
 use Rattle.plan.specs.Plan.{Each}
 use Rattle.plan.specs.Tables.{plan_of}
 use Rattle.plan.proofs.Lent.{length_contacts}
@@ -32,14 +32,12 @@ use Rattle.timing.specs.Chain.{Carries, stays, hops}
 use Rattle.timing.specs.Hop.{consumed, hopped}
 use Rattle.timing.proofs.HopLaws.{Hops, over, hop_told}
 use Rattle.timing.proofs.Rounding.{consumed_form, consumed_most}
-use Rattle.walk.specs.declared.figures.Figures.{Figures}
 use Rattle.walk.proofs.LastCallCode.{carries_named}
-use Rattle.search.specs.declared.answer.Routed.TheVariants.{Best}
+use Rattle.search.specs.declared.answer.Best.{Best}
 use Rattle.search.specs.Route.{RoutesPlan, best}
 use Rattle.search.proofs.Theorems.{route_allowed_in_time, route_short}
 use Rattle.calls.specs.Booked.{with_book, Good}
 use Rattle.calls.specs.Calls.{RoutesBooked, routed}
-use Rattle.calls.proofs.BookingLaws.{checked_good}
 use Rattle.calls_book.specs.Placing.{booking_of}
 
 -- whatever is used of the plan
@@ -69,41 +67,41 @@ carries_left {p} {ask} (hops {c = d} {cs} i f b e k) c named = go (eqb d c) (eqb
     go true same h rest = subst (λ n. InPlan p n × (consumed ask.size ≤ left_in p n)) (same refl) (i, hop_left _ _ _ _ _ _ e)
     go false same h rest = rest h
 
-plan_count : {p : Service} {ask : Ask} {before : List ℕ} {f : Figures} {count : ℕ} {after : List ℕ} → RoutesPlan p ask before (Best f count) after
-    → length (take count after) ≡ count
+plan_count : {p : Service} {ask : Ask} {before : List ℕ} {b : Best} {after : List ℕ} → RoutesPlan p ask before (Ok b) after
+    → length (take b.count after) ≡ b.count
 plan_count {before} (best {chain} b h) = ap length (take_at chain (drop (length chain) before) (length chain) refl)
 
-plan_room : {p : Service} {ask : Ask} {before : List ℕ} {f : Figures} {count : ℕ} {after : List ℕ} → RoutesPlan p ask before (Best f count) after
-    → count ≤ length after
+plan_room : {p : Service} {ask : Ask} {before : List ℕ} {b : Best} {after : List ℕ} → RoutesPlan p ask before (Ok b) after
+    → b.count ≤ length after
 plan_room {before} (best {chain} b h) = omega (arith, length-append chain (drop (length chain) before))
 
-module _ {contacts : List ℕ} {m : ℕ} {ranges : List ℕ} {n : ℕ} {book chains : List ℕ} {ask : Ask} {class : ℕ} {before : List ℕ} {f : Figures} {count : ℕ}
-    {after : List ℕ} (answer : RoutesBooked contacts m ranges n book chains ask class before (Best f count) after) where
+module _ {contacts : List ℕ} {m : ℕ} {ranges : List ℕ} {n : ℕ} {book chains : List ℕ} {ask : Ask} {class : ℕ} {before : List ℕ} {b : Best}
+    {after : List ℕ} (answer : RoutesBooked contacts m ranges n book chains ask class before (Ok b) after) where
   abbrev served : Service
   served = with_book (plan_of contacts m ranges n) (book_of book chains) class
 
   pub chosen_good : Good contacts m ranges n book chains ask class
   chosen_good = go answer
     where
-      go : RoutesBooked contacts m ranges n book chains ask class before (Best f count) after → Good contacts m ranges n book chains ask class
-      go (routed l c r) = checked_good c
+      go : RoutesBooked contacts m ranges n book chains ask class before (Ok b) after → Good contacts m ranges n book chains ask class
+      go (routed l g r) = g
 
-  pub chosen_plan : RoutesPlan served ask before (Best f count) after
+  pub chosen_plan : RoutesPlan served ask before (Ok b) after
   chosen_plan = go answer
     where
-      go : RoutesBooked contacts m ranges n book chains ask class before (Best f count) after → RoutesPlan served ask before (Best f count) after
-      go (routed l c r) = r
+      go : RoutesBooked contacts m ranges n book chains ask class before (Ok b) after → RoutesPlan served ask before (Ok b) after
+      go (routed l g r) = r
 
-  pub chosen_count : length (take count after) ≡ count
+  pub chosen_count : length (take b.count after) ≡ b.count
   chosen_count = plan_count chosen_plan
 
-  pub chosen_room : count ≤ length after
+  pub chosen_room : b.count ≤ length after
   chosen_room = plan_room chosen_plan
 
-  chain_carries : Carries served ask ask.source.0 ask.time.0 (take count after) ask.destination.0 f.delivery.0
+  chain_carries : Carries served ask ask.source.0 ask.time.0 (take b.count after) ask.destination.0 b.figures.delivery.0
   chain_carries = (route_allowed_in_time chosen_plan).0.carried
 
-  pub chosen_booking : GoodBooking m (booking_of ask class (take count after))
+  pub chosen_booking : GoodBooking m (booking_of ask class (take b.count after))
   unfolding most_consumption most_size Each
   chosen_booking =
       let good = chosen_good in
@@ -120,5 +118,5 @@ module _ {contacts : List ℕ} {m : ℕ} {ranges : List ℕ} {n : ℕ} {book cha
             (in_plan_named contacts m ranges n (used (book_of book chains) class) _).0 (carries_named served ask chain_carries blank k h);
       }
 
-  pub chosen_left : (c : ℕ) → names (take count after) c ≡ true → InPlan served c × (consumed ask.size ≤ left_in served c)
+  pub chosen_left : (c : ℕ) → names (take b.count after) c ≡ true → InPlan served c × (consumed ask.size ≤ left_in served c)
   chosen_left = carries_left chain_carries

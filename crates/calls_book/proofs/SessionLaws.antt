@@ -16,8 +16,10 @@ use native.Mathlib.Omega.{arith}
 use lib.IntN.{ℤ, pos, ◌-ℤ◌}
 use lib.ListN.{get_or, replicate, take, get_or-replicate}
 use lib.Signed.{◌≤ℤ◌}
+use Rattle.std.specs.Prelude.{Result, Ok}
 use Rattle.units.specs.Limits.{most_chain, most_places}
 use Rattle.units.specs.declared.Ask.{Ask}
+use Rattle.units.specs.declared.Refusal.{Refusal}
 use Rattle.plan.specs.Tables.{plan_of}
 use Rattle.service.specs.Service.{blank, left_in, volume, left_on}
 use Rattle.service.proofs.LeftLaws.{left_serves}
@@ -28,31 +30,27 @@ use Rattle.book_keeping.specs.History.{Standing, standing_use, Kept, empty, book
 use Rattle.book_keeping.proofs.HistoryLaws.{kept_book, kept_use, zeros_kept}
 use Rattle.timing.specs.Hop.{consumed}
 use Rattle.timing.proofs.Rounding.{consumed_form}
-use Rattle.walk.specs.declared.figures.Figures.{Figures}
 use Rattle.calls.specs.Booked.{with_book}
 use Rattle.calls_book.specs.Placing.{booking_of, BooksRoute, Releases, not_routed, full, placed, no_plan, no_book, not_open}
 use Rattle.calls_book.specs.Placing as Calls
 use Rattle.calls_book.specs.Session.{stands, leaves, Session, begun, then_booked, then_released}
 use Rattle.calls_book.specs.declared.answers.Placed.{Placed}
-use Rattle.calls_book.specs.declared.answers.Placed.TheVariants.{At}
-use Rattle.calls_book.specs.declared.answers.Released.{Released}
-use Rattle.calls_book.specs.declared.answers.Released.TheVariants.{Freed}
 use Rattle.calls_book.proofs.BookedLaws.{released_use}
 use Rattle.calls_book.proofs.ChosenLaws.{in_plan_named, chosen_booking}
 
 module _ {contacts : List ℕ} {m : ℕ} {ranges : List ℕ} {n : ℕ} where
   -- a booking, refused or not, keeps the book
-  kept_booked : {t u : List ℕ} {ss : List Standing} {ask : Ask} {class : ℕ} {before after : List ℕ} {a : Placed} {t' u' : List ℕ} → Kept m t u ss
+  kept_booked : {t u : List ℕ} {ss : List Standing} {ask : Ask} {class : ℕ} {before after : List ℕ} {a : Result Placed Refusal} {t' u' : List ℕ} → Kept m t u ss
       → BooksRoute contacts m ranges n t u ask class before a t' u' after → Kept m t' u' (stands ask class after a ss)
   unfolding stands
   kept_booked kept (not_routed r) = kept
   kept_booked kept (full r all) = kept
-  kept_booked {ask} {class} kept (placed {count} {k} {after} r low) =
+  kept_booked {ask} {class} kept (placed {b} {k} {after} r low) =
       let back : suc k - 1 ≡ k = omega arith in
-      rw back (booked k (booking_of ask class (take count after)) kept low (chosen_booking r))
+      rw back (booked k (booking_of ask class (take b.count after)) kept low (chosen_booking r))
 
   -- and so does a release
-  kept_released : {t u : List ℕ} {ss : List Standing} {place : ℕ} {a : Released} {t' : List ℕ} → Kept m t u ss
+  kept_released : {t u : List ℕ} {ss : List Standing} {place : ℕ} {a : Result (Unit {0}) Refusal} {t' : List ℕ} → Kept m t u ss
       → Releases contacts m ranges n t u place a t' → Kept m t' u (leaves place a ss)
   unfolding leaves
   kept_released kept (no_plan f) = kept
@@ -85,25 +83,25 @@ module _ {contacts : List ℕ} {m : ℕ} {ranges : List ℕ} {n : ℕ} where
       (consumed size) (omega (arith, consumed_form size)))
 
   pub leaves_use : {t u : List ℕ} {ss : List Standing} {place : ℕ} {t' : List ℕ} → Session contacts m ranges n t u ss
-      → Releases contacts m ranges n t u place Freed t' → (l c : ℕ)
-      → standing_use ss l c ≡ taken (booking_at t u (place - 1)) l c + standing_use (leaves place Freed ss) l c
+      → Releases contacts m ranges n t u place (Ok tt) t' → (l c : ℕ)
+      → standing_use ss l c ≡ taken (booking_at t u (place - 1)) l c + standing_use (leaves place (Ok tt) ss) l c
   leaves_use s r l c = omega (arith, session_use s l c, released_use r l c, session_use (then_released s r) l c)
 
 -- ---- what stands, counted from the answer of a booking
 
-module _ (ask : Ask) (class : ℕ) (after : List ℕ) (f : Figures) (count place : ℕ) (ss : List Standing) (l c : ℕ) where
-  pub stands_own : l ≤ class → StandsIn (take count after) c
-      → standing_use (stands ask class after (At f count place) ss) l c ≡ consumed ask.size + standing_use ss l c
+module _ (ask : Ask) (class : ℕ) (after : List ℕ) (p : Placed) (ss : List Standing) (l c : ℕ) where
+  pub stands_own : l ≤ class → StandsIn (take p.count after) c
+      → standing_use (stands ask class after (Ok p) ss) l c ≡ consumed ask.size + standing_use ss l c
   unfolding stands standing_use
-  stands_own h s = ap (λ (x : ℕ). x + standing_use ss l c) (taken_own (booking_of ask class (take count after)) l c h s)
+  stands_own h s = ap (λ (x : ℕ). x + standing_use ss l c) (taken_own (booking_of ask class (take p.count after)) l c h s)
 
-  pub stands_higher : class < l → standing_use (stands ask class after (At f count place) ss) l c ≡ standing_use ss l c
+  pub stands_higher : class < l → standing_use (stands ask class after (Ok p) ss) l c ≡ standing_use ss l c
   unfolding stands standing_use
-  stands_higher h = omega (arith, taken_higher (booking_of ask class (take count after)) l c h)
+  stands_higher h = omega (arith, taken_higher (booking_of ask class (take p.count after)) l c h)
 
-  pub stands_elsewhere : (StandsIn (take count after) c → ⊥) → standing_use (stands ask class after (At f count place) ss) l c ≡ standing_use ss l c
+  pub stands_elsewhere : (StandsIn (take p.count after) c → ⊥) → standing_use (stands ask class after (Ok p) ss) l c ≡ standing_use ss l c
   unfolding stands standing_use
-  stands_elsewhere n = omega (arith, taken_elsewhere (booking_of ask class (take count after)) l c n)
+  stands_elsewhere n = omega (arith, taken_elsewhere (booking_of ask class (take p.count after)) l c n)
 
 -- at least so many words and numbers
 pub zeros_session : (contacts : List ℕ) (m : ℕ) (ranges : List ℕ) (n words numbers : ℕ) → most_places * place_words ≤ words → most_places * most_chain ≤ numbers

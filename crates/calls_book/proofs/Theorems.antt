@@ -11,6 +11,7 @@ use native.Mathlib.Omega.{arith}
 use borrow.Author.Tests.{ltb-true, ltb-false}
 use lib.Dec.{ltb}
 use lib.ListN.{take}
+use Rattle.std.specs.Prelude.{Result, Ok, Err}
 use Rattle.units.specs.declared.Ask.{Ask}
 use Rattle.units.specs.declared.Refusal.{Refusal}
 use Rattle.plan.specs.Tables.{plan_of}
@@ -22,16 +23,11 @@ use Rattle.book.proofs.TakenLaws.{taken_amount}
 use Rattle.book_keeping.specs.Keeping.{IsLowestFree, AllOpen, entered, entered_chain}
 use Rattle.book_keeping.proofs.KeepLaws.{entered_book, freed_book, used_entered}
 use Rattle.timing.specs.Hop.{consumed}
-use Rattle.walk.specs.declared.figures.Figures.{Figures}
-use Rattle.search.specs.declared.answer.Routed.{Routed}
-use Rattle.search.specs.declared.answer.Routed.TheVariants.{Best, Refused as NotRouted}
+use Rattle.search.specs.declared.answer.Best.{Best}
 use Rattle.calls.specs.Booked.{with_book}
 use Rattle.calls.proofs.BookingLaws.{routes_booked_determined}
 use Rattle.calls_book.specs.Placing.{booking_of, BooksRoute, not_routed, full, placed, Releases, no_plan, no_book, not_open, released}
 use Rattle.calls_book.specs.declared.answers.Placed.{Placed}
-use Rattle.calls_book.specs.declared.answers.Placed.TheVariants.{At, Refused as NotPlaced}
-use Rattle.calls_book.specs.declared.answers.Released.{Released}
-use Rattle.calls_book.specs.declared.answers.Released.TheVariants.{Freed}
 use Rattle.calls_book.proofs.ChosenLaws.{chosen_good, chosen_booking, chosen_left}
 
 -- ---- one result at the most
@@ -48,23 +44,20 @@ none_lowest : {A : Type 0} {t : List ℕ} {k : ℕ} → AllOpen t → IsLowestFr
 unfolding AllOpen
 none_lowest {k} all low = absurd (all k low.inside low.is_free)
 
-same_refused : {x y : Refusal} → ◌≡◌ {A = Routed} (NotRouted x) (NotRouted y) → x ≡ y
+same_refused : {A : Type 0} {x y : Refusal} → ◌≡◌ {A = Result A Refusal} (Err x) (Err y) → x ≡ y
 same_refused e = cc
 
-same_figures : {f g : Figures} {i j : ℕ} → ◌≡◌ {A = Routed} (Best f i) (Best g j) → f ≡ g
-same_figures e = cc
+same_best : {a b : Best} → ◌≡◌ {A = Result Best Refusal} (Ok a) (Ok b) → a ≡ b
+same_best e = cc
 
-same_count : {f g : Figures} {i j : ℕ} → ◌≡◌ {A = Routed} (Best f i) (Best g j) → i ≡ j
-same_count e = cc
-
-refused_best : {A : Type 0} {x : Refusal} {f : Figures} {i : ℕ} → ◌≡◌ {A = Routed} (NotRouted x) (Best f i) → A
+refused_best : {A : Type 0} {x : Refusal} {b : Best} → ◌≡◌ {A = Result Best Refusal} (Err x) (Ok b) → A
 refused_best e = let z : ◌≡◌ {A = ℕ} 0 1 = cc in absurd (omega arith)
 
 module _ {contacts : List ℕ} {m : ℕ} {ranges : List ℕ} {n : ℕ} {t u : List ℕ} where
-  pub books_route_determined : {ask : Ask} {class : ℕ} {before : List ℕ} {a b : Placed} {t₁ t₂ u₁ u₂ after₁ after₂ : List ℕ}
+  pub books_route_determined : {ask : Ask} {class : ℕ} {before : List ℕ} {a b : Result Placed Refusal} {t₁ t₂ u₁ u₂ after₁ after₂ : List ℕ}
       → BooksRoute contacts m ranges n t u ask class before a t₁ u₁ after₁ → BooksRoute contacts m ranges n t u ask class before b t₂ u₂ after₂
       → (a ≡ b) × (t₁ ≡ t₂) × (u₁ ≡ u₂) × (after₁ ≡ after₂)
-  books_route_determined (not_routed r) (not_routed s) = (ap NotPlaced (same_refused (routes_booked_determined r s).0), refl, refl, refl)
+  books_route_determined (not_routed r) (not_routed s) = (ap Err (same_refused (routes_booked_determined r s).0), refl, refl, refl)
   books_route_determined (not_routed r) (full s all) = refused_best (routes_booked_determined r s).0
   books_route_determined (not_routed r) (placed s low) = refused_best (routes_booked_determined r s).0
   books_route_determined (full r all) (not_routed s) = refused_best (routes_booked_determined s r).0
@@ -74,17 +67,16 @@ module _ {contacts : List ℕ} {m : ℕ} {ranges : List ℕ} {n : ℕ} {t u : Li
   books_route_determined (placed r low) (full s all) = none_lowest all low
   books_route_determined {ask} {class} (placed r low) (placed s low') =
       let same = routes_booked_determined r s in
-      let figures = same_figures same.0 in
-      let count = same_count same.0 in
+      let best = same_best same.0 in
       let chain = same.1 in
       let place = lowest_unique low low' in (
-        (λ i. At (figures i) (count i) (suc (place i))),
-        (λ i. entered t (place i) (booking_of ask class (take (count i) (chain i)))),
-        (λ i. entered_chain u (place i) (take (count i) (chain i))),
+        (λ i. Ok (record { figures = (best i).figures; count = (best i).count; place = suc (place i) })),
+        (λ i. entered t (place i) (booking_of ask class (take (best i).count (chain i)))),
+        (λ i. entered_chain u (place i) (take (best i).count (chain i))),
         chain,
       )
 
-  pub releases_determined : {place : ℕ} {a b : Released} {t₁ t₂ : List ℕ} → Releases contacts m ranges n t u place a t₁
+  pub releases_determined : {place : ℕ} {a b : Result (Unit {0}) Refusal} {t₁ t₂ : List ℕ} → Releases contacts m ranges n t u place a t₁
       → Releases contacts m ranges n t u place b t₂ → (a ≡ b) × (t₁ ≡ t₂)
   releases_determined (no_plan f) (no_plan f') = (refl, refl)
   releases_determined (no_plan f) (no_book p' f') = (refl, refl)
@@ -105,21 +97,21 @@ module _ {contacts : List ℕ} {m : ℕ} {ranges : List ℕ} {n : ℕ} {t u : Li
 
   -- ---- the book stays good
 
-  pub books_route_book : {ask : Ask} {class : ℕ} {before : List ℕ} {f : Figures} {count place : ℕ} {t' u' after : List ℕ}
-      → BooksRoute contacts m ranges n t u ask class before (At f count place) t' u' after → IsBook m t' u'
-  books_route_book {ask} {class} (placed {count} {k} {after} r low) =
-      entered_book m t u (chosen_good r).its_book k low.inside (booking_of ask class (take count after)) (chosen_booking r)
+  pub books_route_book : {ask : Ask} {class : ℕ} {before : List ℕ} {p : Placed} {t' u' after : List ℕ}
+      → BooksRoute contacts m ranges n t u ask class before (Ok p) t' u' after → IsBook m t' u'
+  books_route_book {ask} {class} (placed {b} {k} {after} r low) =
+      entered_book m t u (chosen_good r).its_book k low.inside (booking_of ask class (take b.count after)) (chosen_booking r)
 
-  pub releases_book : {place : ℕ} {t' : List ℕ} → Releases contacts m ranges n t u place Freed t' → IsBook m t' u
+  pub releases_book : {place : ℕ} {t' : List ℕ} → Releases contacts m ranges n t u place (Ok tt) t' → IsBook m t' u
   releases_book {place} (released p b o) = freed_book m t u b (place - 1) (omega (arith, o.least, o.most))
 
   -- ---- and no contact of the chain is booked beyond its volume
 
-  pub booked_within : {ask : Ask} {class : ℕ} {before : List ℕ} {f : Figures} {count place : ℕ} {t' u' after : List ℕ}
-      → BooksRoute contacts m ranges n t u ask class before (At f count place) t' u' after → (c : ℕ) → names (take count after) c ≡ true
+  pub booked_within : {ask : Ask} {class : ℕ} {before : List ℕ} {p : Placed} {t' u' after : List ℕ}
+      → BooksRoute contacts m ranges n t u ask class before (Ok p) t' u' after → (c : ℕ) → names (take p.count after) c ≡ true
       → used (book_of t' u') class c ≤ volume (contact_of (with_book (plan_of contacts m ranges n) (book_of t u) class) c)
-  booked_within {ask} {class} (placed {count} {k} {after} r low) c named =
-      let booking = booking_of ask class (take count after) in
+  booked_within {ask} {class} (placed {b} {k} {after} r low) c named =
+      let booking = booking_of ask class (take b.count after) in
       let left = chosen_left r c named in
       let before = service_left (plan_of contacts m ranges n) (used (book_of t u) class) c left.0 in
       let within = (left_exactly (consumed ask.size) _ (used (book_of t u) class c) (chosen_booking r).consumption_least).0 (rw before at left.1) in

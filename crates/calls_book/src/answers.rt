@@ -1,18 +1,11 @@
-// What the calls that change a book answer.
-use units::Refusal;
+// What `book_route` answers.
 use walk::Figures;
 
-// The figures of the chain that was booked, how many contacts it has and the booking's place, counted from
-// 1, or why nothing was booked.
+// What was booked: the figures of the chain, how many contacts it has, and the booking's place, counted
+// from 1.
 #[derive(Clone, Copy)]
-pub enum Placed {
-    At(Figures, usize, u64),
-    Refused(Refusal),
-}
-
-// The place is free, or why it was not freed.
-#[derive(Clone, Copy)]
-pub enum Released {
-    Freed,
-    Refused(Refusal),
+pub struct Placed {
+    pub figures: Figures,
+    pub count: usize,
+    pub place: u64,
 }

@@ -7,6 +7,6 @@ mod answers;
 mod releasing;
 mod reserving;
 
-pub use answers::{Placed, Released};
+pub use answers::Placed;
 pub use releasing::release;
 pub use reserving::book_route;

@@ -1,40 +1,34 @@
 // The public call `release`: a booking's place and volume are free again.
 ghost use Rattle.calls_book.specs.Placing.{Releases};
 
-use crate::answers::Released;
 use book::{is_book, is_open};
 use book_keeping::free;
-use plan_valid::is_plan;
+use plan::PlanTables;
+use plan_valid::CheckedPlan;
 use units::{MOST_PLACES, Refusal};
 
 // Frees the place of that number, counted from 1, where it is open.
 pub fn release(
-    contacts: &[u64],
-    contact_count: usize,
-    ranges: &[u64],
-    range_count: usize,
-    book: &mut [u64],
+    tables: PlanTables,
+    places: &mut [u64],
     chains: &[u16],
     place: u64,
-) -> Released
-    ensures { Releases contacts.now contact_count ranges.now range_count book.old chains.now place result book.new }
+) -> Result<(), Refusal>
+    ensures { Releases tables.entry.contacts.now tables.entry.contact_count tables.entry.ranges.now tables.entry.range_count places.old chains.now place result places.new }
 {
-    if !is_plan(contacts, contact_count, ranges, range_count) {
-        return Released::Refused(Refusal::NoPlan);
+    if CheckedPlan::of(tables).is_none() {
+        return Err(Refusal::NoPlan);
     }
-    if !is_book(book, chains, contact_count) {
-        return Released::Refused(Refusal::NoPlan);
+    if !is_book(places, chains, tables.contact_count) {
+        return Err(Refusal::NoPlan);
     }
-    if place < 1 {
-        return Released::Refused(Refusal::NotOpen);
-    }
-    if (MOST_PLACES as u64) < place {
-        return Released::Refused(Refusal::NotOpen);
+    if place < 1 || (MOST_PLACES as u64) < place {
+        return Err(Refusal::NotOpen);
     }
     let k = (place - 1) as usize;
-    if !is_open(book, k) {
-        return Released::Refused(Refusal::NotOpen);
+    if !is_open(places, k) {
+        return Err(Refusal::NotOpen);
     }
-    free(book, k);
-    Released::Freed
+    free(places, k);
+    Ok(())
 }

@@ -1,33 +1,36 @@
 -- `calls::serving::serve_booked` meets its contract.
 -- Assumes nothing.
-use mathlib.Core.Path.{◌∙◌}
 use native.Mathlib.Omega.{arith}
+use Rattle.units.specs.Limits.{most_contacts}
 use Rattle.plan.proofs.Lent.{contacts_counted}
-use Rattle.service.proofs.SpendLaws.{spent_serves}
 use Rattle.book.specs.Book.{used}
 use Rattle.book.specs.Tables.{book_of}
+use Rattle.service.specs.Held.{service_in}
+use Rattle.service.proofs.ServiceLaws.{is_service}
+use Rattle.service.proofs.SpendLaws.{spent_serves}
 use Rattle.calls.proofs.serving.serve_booked.Goals as goal
 
-pub serve-requires : goal.serve-requires
-serve-requires c =
-    let pre = c.requires in
-    let few = contacts_counted _ _ _ _ pre.0 in
-    (pre.0, omega (arith, few, pre.2), omega (arith, few, pre.3))
-
 pub spend-requires : goal.spend-requires
+unfolding most_contacts
 spend-requires c =
-    let pre = c.requires in
-    let few = contacts_counted _ _ _ _ pre.0 in
-    (pre.1, omega (arith, few, pre.3, c.serve.ensures.2))
+    let call = c.args.call.now in
+    omega (arith, contacts_counted _ _ _ _ call.plan.valid, call.same_count, c.serve.array_long2)
+
+
+pub invariant_of-result : goal.invariant_of-result
+unfolding most_contacts
+invariant_of-result c =
+    let call = c.args.call.now in
+    let few = contacts_counted _ _ _ _ call.plan.valid in
+    record {
+      sound = is_service _ _ _ _ _ _ _ call.plan.valid (omega (arith, few, c.serve.array_long)) (omega (arith, few, c.spend.ensures.same_length, c.serve.array_long2))
+          (spent_serves _ _ _ _ _ _ (used (book_of call.book.places.now call.book.chains.now) call.class) c.serve.ensures
+          (λ k h. c.spend.ensures.lefts k (omega (arith, h, few, c.serve.array_long2))));
+    }
 
 pub returns : goal.returns
+unfolding service_in most_contacts
 returns c =
-    let pre = c.requires in
-    let few = contacts_counted _ _ _ _ pre.0 in
-    let filled = c.serve.ensures in
-    let spent = c.spend.ensures in (
-      spent_serves _ _ _ _ _ _ (used (book_of c.args.book.now c.args.chains.now) c.args.class) filled.0
-          (λ k h. spent.lefts k (omega (arith, h, few, pre.3, filled.2))),
-      filled.1,
-      spent.same_length ∙ filled.2,
-    )
+    let call = c.args.call.now in
+    let few = contacts_counted _ _ _ _ call.plan.valid in
+    spent_serves _ _ _ _ _ _ (used (book_of call.book.places.now call.book.chains.now) call.class) c.serve.ensures (λ k h. c.spend.ensures.lefts k (omega (arith, h, few, c.serve.array_long2)))

@@ -1,23 +1,18 @@
 -- `calls::walks::walk_booked` meets its contract.
 -- Assumes nothing.
-use mathlib.Core.Path.{sym, subst}
-use Rattle.service.proofs.ServiceLaws.{service_sound}
-use Rattle.walk.specs.Walk.{WalksPlan}
-use Rattle.walk.proofs.Theorems.{walk_model_walks}
+use Rattle.std.proofs.lemmas.Result.{err_from_is_err_and}
 use Rattle.calls.specs.Calls.{stopped, walked}
-use Rattle.calls.proofs.BookingLaws.{checked_good}
+use Rattle.calls.proofs.BookingLaws.{checked_good, checked_holds}
+use Rattle.calls.proofs.CallCode.{call_walked}
 use Rattle.calls.proofs.walks.walk_booked.Goals as goal
 
-pub walk_good-requires : goal.walk_good-requires
-walk_good-requires c = checked_good (rw c.in-Go.is at c.checks.ensures)
+pub returns-in_err-call : goal.returns-in_err-call
+returns-in_err-call c =
+    let p = err_from_is_err_and c.from_residual.result c.from_residual.ensures.1 in
+    rw (p.1, p.2) (stopped (rw c.in_err-call.was at c.checks.ensures))
 
-pub returns-in-Stop : goal.returns-in-Stop
-returns-in-Stop c = stopped (rw c.in-Stop.is at c.checks.ensures)
-
-pub returns-in-Go : goal.returns-in-Go
-returns-in-Go c =
-    let all = rw c.in-Go.is at c.checks.ensures in
+pub returns : goal.returns
+returns c =
+    let all = rw c.in_ok-call.was at c.checks.ensures in
     let good = checked_good all in
-    walked all
-    (subst (WalksPlan _ _ _) (sym c.walk_good.ensures)
-    (walk_model_walks _ _ _ (service_sound _ good.plan.valid _) good.ask_is_good good.differ))
+    walked good (call_walked (checked_holds all) good c.walk_good.ensures)

@@ -1,9 +1,8 @@
 -- `calls::walks::walk_good` meets its contract.
 -- Assumes nothing.
-use native.Mathlib.Omega.{arith}
-use Rattle.units.specs.Limits.{most_contacts}
+use mathlib.Core.Path.{ap, ◌∙◌}
+use Rattle.walk.specs.Model.{walk_model}
 use Rattle.calls.proofs.walks.walk_good.Goals as goal
 
-pub walk_through-requires : goal.walk_through-requires
-unfolding most_contacts
-walk_through-requires c = (c.requires, omega arith, omega arith)
+pub returns : goal.returns
+returns c = c.walk_served.ensures ∙ ap (λ s. walk_model s c.args.call.now.ask.asked c.args.chain.now) c.serve_booked-service.ensures
