@@ -12,7 +12,9 @@ use Prim.Native.Nat.{ℕ, ◌≤◌}
 use native.Mathlib.Omega.{arith}
 use lib.ListN.{length}
 use Rattle.units.specs.Limits.{most_chain, last_time}
+use Rattle.std.specs.Prelude.{Result, Ok}
 use Rattle.units.specs.declared.Ask.{Ask}
+use Rattle.units.specs.declared.Refusal.{Refusal}
 use Rattle.plan.specs.Tables.{IsPlan, plan_of}
 use Rattle.service.specs.Service.{Service, Sound, service_of, unused}
 use Rattle.service.proofs.ServiceLaws.{service_sound}
@@ -23,9 +25,10 @@ use Rattle.units.specs.Asks.{GoodAsk}
 use Rattle.network.specs.Network.{When}
 use Rattle.search.specs.Route.{RoutesPlan, no_chain, too_late, best}
 use Rattle.search.specs.Route as Alone
-use Rattle.search.specs.declared.answer.Routed.{Routed}
-use Rattle.calls.specs.Booked.{GoodClass, no_plan, no_book, bad_ask, bad_class, same_node, all_good}
+use Rattle.search.specs.declared.answer.Best.{Best}
+use Rattle.calls.specs.Booked.{GoodClass}
 use Rattle.calls.specs.Calls.{short_chain, not_routed, routed}
+use Rattle.calls.specs.Checks.{no_plan, no_book, bad_ask, bad_class, same_node}
 use Rattle.calls_compared.specs.Compared.{Over, no_book, book_beside, RoutesOver, alone, booked, Delivers, route, refused_13, refused_14, ask_by}
 
 -- the bytes of each contact that are used
@@ -75,7 +78,7 @@ module _ {contacts : List ℕ} {m : ℕ} {ranges : List ℕ} {n : ℕ} where
   pub good_sound : {over : Over} {ask : Ask} → GoodCall contacts m ranges n over ask → Sound (served contacts m ranges n over)
   good_sound {over} good = service_sound (plan_of contacts m ranges n) good.plan.valid (used_by over)
 
-  pub good_answers : {over : Over} {ask : Ask} {before after : List ℕ} {r : Routed} → most_chain ≤ length before → GoodCall contacts m ranges n over ask
+  pub good_answers : {over : Over} {ask : Ask} {before after : List ℕ} {r : Result Best Refusal} → most_chain ≤ length before → GoodCall contacts m ranges n over ask
       → RoutesOver contacts m ranges n over ask before r after → RoutesPlan (served contacts m ranges n over) ask before r after
   good_answers long good (alone (Alone.short_chain h)) = absurd (omega arith)
   good_answers long good (alone (Alone.no_plan l f)) = absurd (f good.plan)
@@ -90,19 +93,19 @@ module _ {contacts : List ℕ} {m : ℕ} {ranges : List ℕ} {n : ℕ} where
   good_answers long good (booked (not_routed l (same_node p b a c e))) = absurd (good.differ e)
   good_answers long good (booked (routed l c a)) = a
 
-  pub good_delivers : {over : Over} {ask : Ask} {before after : List ℕ} {r : Routed} → most_chain ≤ length before → GoodCall contacts m ranges n over ask
+  pub good_delivers : {over : Over} {ask : Ask} {before after : List ℕ} {r : Result Best Refusal} → most_chain ≤ length before → GoodCall contacts m ranges n over ask
       → RoutesOver contacts m ranges n over ask before r after → (w : When) × Delivers r w
   good_delivers long good a = go (good_answers long good a)
     where
-      go : {p : Service} {ask : Ask} {before after : List ℕ} {r : Routed} → RoutesPlan p ask before r after → (w : When) × Delivers r w
+      go : {p : Service} {ask : Ask} {before after : List ℕ} {r : Result Best Refusal} → RoutesPlan p ask before r after → (w : When) × Delivers r w
       go (no_chain f) = (_, refused_13)
       go (too_late a f) = (_, refused_14)
       go (best b f) = (_, route)
 
-  pub delivers_good : {over : Over} {ask : Ask} {before after : List ℕ} {r : Routed} {w : When} → RoutesOver contacts m ranges n over ask before r after
+  pub delivers_good : {over : Over} {ask : Ask} {before after : List ℕ} {r : Result Best Refusal} {w : When} → RoutesOver contacts m ranges n over ask before r after
       → Delivers r w → GoodCall contacts m ranges n over ask × RoutesPlan (served contacts m ranges n over) ask before r after
   delivers_good (alone (Alone.routed l p g d a)) w = (record { plan = p; its_book = tt; ask_is_good = g; differ = d }, a)
-  delivers_good (booked (routed l (all_good g) a)) w =
+  delivers_good (booked (routed l g a)) w =
       (record { plan = g.plan; its_book = (g.its_book, g.good_class); ask_is_good = g.ask_is_good; differ = g.differ }, a)
   delivers_good (alone (Alone.short_chain h)) w = elim w [ ]
   delivers_good (alone (Alone.no_plan l f)) w = elim w [ ]

@@ -13,12 +13,13 @@ use Prim.Native.Nat.{ℕ, ◌≤◌}
 use native.Mathlib.Nat.{le_trans}
 use lib.ListN.{length}
 use Rattle.units.specs.Limits.{most_chain, last_time}
+use Rattle.std.specs.Prelude.{Result, Ok}
 use Rattle.units.specs.declared.Ask.{Ask}
+use Rattle.units.specs.declared.Refusal.{Refusal}
 use Rattle.timing.specs.Chain.{ask_at, ask_of}
 use Rattle.walk.specs.declared.figures.Figures.{Figures}
 use Rattle.network.specs.Network.{When, NotLater}
-use Rattle.search.specs.declared.answer.Routed.{Routed}
-use Rattle.search.specs.declared.answer.Routed.TheVariants.{Best}
+use Rattle.search.specs.declared.answer.Best.{Best}
 use Rattle.calls_compared.specs.Compared.{Over, RoutesOver, Delivers, route, Found, KeepsRoute, ask_by, Further}
 use Rattle.calls_compared.proofs.Calls.{used_by, served, good_sound, good_answers, delivers_good, good_at, good_by}
 use Rattle.calls_compared.proofs.Easier.{NoHarder, Serves, serves_same, later_harder, larger_harder, same_hard}
@@ -27,7 +28,7 @@ use Rattle.calls_compared.proofs.Served.{served_never_later, last_call_most, ser
 
 -- a call that is no harder, of a plan that has no less, never delivers later
 never_later : {contacts : List ℕ} {m : ℕ} {ranges : List ℕ} {n : ℕ} {contacts' : List ℕ} {m' : ℕ} {over : Over} {ask easy : Ask}
-    {before after before' after' : List ℕ} {r r' : Routed} {a b : When} → Serves (served contacts m ranges n over) (served contacts' m' ranges n over)
+    {before after before' after' : List ℕ} {r r' : Result Best Refusal} {a b : When} → Serves (served contacts m ranges n over) (served contacts' m' ranges n over)
     → NoHarder ask easy → RoutesOver contacts m ranges n over ask before r after → Delivers r a
     → RoutesOver contacts' m' ranges n over easy before' r' after' → Delivers r' b → NotLater b a
 never_later serves no-harder x d x' d' =
@@ -35,7 +36,7 @@ never_later serves no-harder x d x' d' =
     let (good', y') = delivers_good x' d' in
     served_never_later (good_sound good) serves no-harder y d y' d'
 
-module _ {contacts : List ℕ} {m : ℕ} {ranges : List ℕ} {n : ℕ} {over : Over} {ask : Ask} {before after before' after' : List ℕ} {r r' : Routed} {a b : When} where
+module _ {contacts : List ℕ} {m : ℕ} {ranges : List ℕ} {n : ℕ} {over : Over} {ask : Ask} {before after before' after' : List ℕ} {r r' : Result Best Refusal} {a b : When} where
   pub later_never_earlier : {t : ℕ} → ask.time.0 ≤ t
       → RoutesOver contacts m ranges n over ask before r after → Delivers r a
       → RoutesOver contacts m ranges n over (ask_at ask t) before' r' after' → Delivers r' b
@@ -54,18 +55,18 @@ module _ {contacts : List ℕ} {m : ℕ} {ranges : List ℕ} {n : ℕ} {over : O
       → NotLater b a
   further_never_later further x d x' d' = never_later (further_serves ranges n (used_by over) further) (same_hard ask) x d x' d'
 
-module _ {contacts : List ℕ} {m : ℕ} {ranges : List ℕ} {n : ℕ} {over : Over} {ask : Ask} {before after before' after' : List ℕ} {f : Figures} {k : ℕ} {r : Routed} where
+module _ {contacts : List ℕ} {m : ℕ} {ranges : List ℕ} {n : ℕ} {over : Over} {ask : Ask} {before after before' after' : List ℕ} {b : Best} {r : Result Best Refusal} where
   pub deadline_keeps : {d : ℕ} → ask.deadline.0 ≤ d → d ≤ last_time → most_chain ≤ length before'
-      → RoutesOver contacts m ranges n over ask before (Best f k) after
+      → RoutesOver contacts m ranges n over ask before (Ok b) after
       → RoutesOver contacts m ranges n over (ask_by ask d) before' r after'
-      → KeepsRoute f k after r after'
+      → KeepsRoute b after r after'
   deadline_keeps h most long x x' =
       let (good, y) = delivers_good x route in
       served_keeps (good_sound good) ask h y (good_answers long (good_by most good) x')
 
   -- an earlier time than the ask's is good too
-  pub until_last_call : {t : ℕ} → t ≤ f.last_call.0 → most_chain ≤ length before'
-      → RoutesOver contacts m ranges n over ask before (Best f k) after
+  pub until_last_call : {t : ℕ} → t ≤ b.figures.last_call.0 → most_chain ≤ length before'
+      → RoutesOver contacts m ranges n over ask before (Ok b) after
       → RoutesOver contacts m ranges n over (ask_at ask t) before' r after'
       → Found r
   until_last_call h long x x' =

@@ -11,6 +11,10 @@ pub returns-then-chain-lt-MOST_CHAIN : goal.returns-then-chain-lt-MOST_CHAIN
 unfolding most_chain
 returns-then-chain-lt-MOST_CHAIN c = short_chain c.if-chain-lt-MOST_CHAIN.true
 
+pub route_good-requires : goal.route_good-requires
+unfolding most_chain
+route_good-requires c = c.if-chain-lt-MOST_CHAIN.false
+
 pub returns-in_err-call : goal.returns-in_err-call
 unfolding most_chain
 returns-in_err-call c =

@@ -1,37 +1,24 @@
 -- `walk::walking::walk` meets its contract.
 -- Assumes nothing.
-use mathlib.Core.Path.{sym, ◌∙◌, subst}
-use Rattle.plan.proofs.Verdicts.{true_holds, false_fails}
-use Rattle.walk.specs.Walk.{WalksPlan, no_plan, bad_ask, same_node, walked}
-use Rattle.service.specs.Service.{unused}
-use Rattle.service.proofs.ServiceLaws.{service_sound}
-use Rattle.walk.proofs.Theorems.{walk_model_walks}
-use Rattle.walk.proofs.WalkCode.{good_ask_tells}
+use mathlib.Core.Path.{◌≡◌, ap, ◌∙◌}
+use Rattle.std.specs.Prelude.{Err}
+use Rattle.units.specs.declared.Refusal.TheVariants.{NoPlan}
+use Rattle.walk.proofs.WalkCode.{hands_on, walks_no_plan, walks_checked}
 use Rattle.walk.proofs.walking.walk.Goals as goal
 
-pub returns-then-not-plan : goal.returns-then-not-plan
-returns-then-not-plan c = no_plan (false_fails c.is_plan-plan.ensures c.if-not-plan.true)
+pub returns-in_err-plan : goal.returns-in_err-plan
+returns-in_err-plan c =
+    let none = rw c.in_err-plan.ensures.ok_part at c.of.ensures in
+    let told = rw c.in_err-plan.ensures.ok_part at c.in_err-plan.ensures.value in
+    let why : c.in_err-plan.field-0.0 ≡ NoPlan = cc told in
+    walks_no_plan c.args.tables _ _ _ none (hands_on c.in_err-plan.field-0.0 c.from_residual.result c.from_residual.ensures.1 ∙ ap Err why)
 
-pub returns-then-not-good : goal.returns-then-not-good
-returns-then-not-good c =
-    bad_ask (true_holds c.is_plan-plan.ensures c.if-not-plan.false)
-    (false_fails (good_ask_tells _) (sym c.is_good_ask-good.ensures ∙ c.if-not-good.true))
-
-pub returns-then-same : goal.returns-then-same
-returns-then-same c =
-    same_node (true_holds c.is_plan-plan.ensures c.if-not-plan.false)
-    (true_holds (good_ask_tells _) (sym c.is_good_ask-good.ensures ∙ c.if-not-good.false)) c.if-same.true
-
-pub walk_plan-requires : goal.walk_plan-requires
-walk_plan-requires c = (
-  true_holds c.is_plan-plan.ensures c.if-not-plan.false,
-  true_holds (good_ask_tells _) (sym c.is_good_ask-good.ensures ∙ c.if-not-good.false),
-  c.if-same.false,
-)
+pub returns-in_err-asked : goal.returns-in_err-asked
+returns-in_err-asked c =
+    let told = hands_on c.in_err-asked.field-0.0 c.from_residual-in_err-asked.result c.from_residual-in_err-asked.ensures.1 in
+    walks_checked c.args.tables _ _ _ c.in_ok-plan.plan (rw c.in_ok-plan.ensures.ok_part at c.of.ensures) c.in_err-asked.ensures told
 
 pub returns : goal.returns
 returns c =
-    let plan = true_holds c.is_plan-plan.ensures c.if-not-plan.false in
-    let good = true_holds (good_ask_tells _) (sym c.is_good_ask-good.ensures ∙ c.if-not-good.false) in
-    let differ = c.if-same.false in
-    walked plan good differ (subst (WalksPlan _ _ _) (sym c.walk_plan.ensures) (walk_model_walks _ _ _ (service_sound _ plan.valid unused) good differ))
+    let same = rw c.in_ok-plan.ensures.ok_part at c.of.ensures in
+    walks_checked c.args.tables _ _ _ c.in_ok-plan.plan same c.in_ok-asked.ensures c.walk_plan.ensures
