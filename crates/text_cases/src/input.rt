@@ -13,6 +13,7 @@ fn read_some(from: &mut impl Read, part: &mut [u8]) -> usize
 }
 
 // Reads until `buf` is full or the reader is at its end: how many bytes it put at the start of `buf`.
+// A read may put fewer bytes than there is room for, so they are counted here, and not by a `for`.
 fn read_full(from: &mut impl Read, buf: &mut [u8]) -> usize
     ensures { IsPrefixLen result buf.new }
 {
