@@ -19,6 +19,7 @@ use units::{Ask, CheckedAsk, ContactNo, MOST_CONTACTS, Millis, Refusal};
 use walk_cause::cause;
 
 // When the file starts on the chain's first contact.
+#[tactic(auto, unfolding(plan::specs::Plan::Each))]
 fn opens(service: &ServedPlan, ask: CheckedAsk, chain: &[u64]) -> Millis
     requires { Each (InPlan (service_in service.now)) chain.now × (1 ≤ length chain.now) }
     ensures { result.0 ≡ start_on (contact_of (service_in service.now) (get_or chain.now 0 0)) ask.asked.time.0 }
