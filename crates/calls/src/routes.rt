@@ -10,21 +10,20 @@ use crate::checking::checks;
 use crate::serving::serve_booked;
 use book::BookTables;
 use plan::PlanTables;
-use search::{Best, answer_found, find_chain};
+use search::{Best, route_served};
 use service::{BLANK_LEFT, BLANK_LIGHT};
 use units::{Ask, MOST_CHAIN, MOST_CONTACTS, Refusal};
 
 // The answer for a checked call: the light times and what is left of its contacts stand on the stack.
 pub fn route_good(call: &CheckedCall, chain: &mut [u64]) -> Result<Best, Refusal>
     requires { most_chain ≤ length chain.old }
-    ensures answer { result ≡ route_model (service_for call.now) call.now.ask.asked }
-    ensures after { chain.new ≡ route_after (service_for call.now) call.now.ask.asked chain.old }
+    ensures best { result ≡ route_model (service_for call.now) call.now.ask.asked }
+    ensures chain { chain.new ≡ route_after (service_for call.now) call.now.ask.asked chain.old }
 {
     let mut lights = [BLANK_LIGHT; MOST_CONTACTS];
     let mut lefts = [BLANK_LEFT; MOST_CONTACTS];
     let service = serve_booked(call, &mut lights, &mut lefts);
-    let found = find_chain(&service, call.ask, chain);
-    answer_found(&service, call.ask, chain, found)
+    route_served(&service, call.ask, chain)
 }
 
 // The best chain for an ask of that class, over the plan and the book that the tables hold: its contact

@@ -18,6 +18,7 @@ pub const NEVER: u64 = 18_446_744_073_709_551_614;
 
 // 64 layers of 64 nodes. A word is a time, or NEVER and not an Option, for fixed memory: an Option is twice
 // as long as its time.
+#[derive(Drop)]
 pub struct Layers {
     pub words: [u64; 4096],
     pub ghost full: { length words ≡ most_nodes * most_nodes },
@@ -54,7 +55,7 @@ impl Layers {
     }
 
     // Stores that time for the node in row k.
-    pub fn put(&mut self, k: usize, node: NodeNo, time: Millis)
+    pub(crate) fn put(&mut self, k: usize, node: NodeNo, time: Millis)
         requires { (k < most_nodes) × IsNode node × (time.0 ≤ last_time + most_light) }
         ensures { self.new.words ≡ set self.old.words (k * most_nodes + (node.0 - 1)) time.0 }
     {
@@ -63,7 +64,7 @@ impl Layers {
     }
 
     // Row k copied into row k + 1.
-    pub fn copy_row(&mut self, k: usize)
+    pub(crate) fn copy_row(&mut self, k: usize)
         requires { k + 1 < most_nodes }
         ensures { Layered self.old self.new k (layer_of self.old.words k) }
     {

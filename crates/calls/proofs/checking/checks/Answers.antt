@@ -48,7 +48,7 @@ returns-then-eq c =
     let book : c.checked.result ≡ Some c.in_ok-book.book = grind arith in
     same_node (plan_holds _ c.of.ensures plan) (book_holds c.checked.ensures.same book)
     (good_ask_says _ (sym c.is_good_ask.ensures ∙ c.if-not-is_good_ask.false))
-    (class_good (omega (arith, c.if-class-lt1.false)) (omega (arith, c.if-class-gt-MOST_CLASS.false)))
+    (class_good (omega arith) (omega arith))
     (eqb-true _ _ (sym c.eq.ensures ∙ c.if-eq.true))
 
 pub invariant_of-result : goal.invariant_of-result
@@ -57,7 +57,7 @@ invariant_of-result c =
     let book : c.checked.result ≡ Some c.in_ok-book.book = grind arith in
     record {
       same_count = (book_same c.checked.ensures.same book).2 ∙ sym (ap (λ t. t.contact_count) (plan_same _ c.of.ensures plan));
-      good_class = class_good (omega (arith, c.if-class-lt1.false)) (omega (arith, c.if-class-gt-MOST_CLASS.false));
+      good_class = class_good (omega arith) (omega arith);
     }
 
 pub returns : goal.returns
@@ -71,7 +71,7 @@ returns c =
       plan = plan_holds _ c.of.ensures plan;
       its_book = book_holds c.checked.ensures.same book;
       ask_is_good = good_ask_says _ (sym c.is_good_ask.ensures ∙ c.if-not-is_good_ask.false);
-      good_class = class_good (omega (arith, c.if-class-lt1.false)) (omega (arith, c.if-class-gt-MOST_CLASS.false));
+      good_class = class_good (omega arith) (omega arith);
       differ = eqb-false _ _ (sym c.eq.ensures ∙ c.if-eq.false);
     })
     (record {

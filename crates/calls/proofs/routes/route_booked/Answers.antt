@@ -26,4 +26,4 @@ unfolding most_chain
 returns c =
     let all = rw c.in_ok-call.was at c.checks.ensures in
     let good = checked_good all in
-    routed c.if-chain-lt-MOST_CHAIN.false good (call_routed (checked_holds all) good c.route_good.ensures.answer c.route_good.ensures.after)
+    routed c.if-chain-lt-MOST_CHAIN.false good (call_routed (checked_holds all) good c.route_good.ensures.best c.route_good.ensures.chain)

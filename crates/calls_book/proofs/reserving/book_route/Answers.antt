@@ -1,12 +1,10 @@
 -- `calls_book::reserving::book_route` meets its contract.
 -- Assumes nothing.
-use mathlib.Core.Path.{sym, subst, ◌∙◌}
-use native.Mathlib.Omega.{arith}
+use mathlib.Core.Path.{sym, ◌∙◌}
 use lib.Seq.{length-take-le}
-use Rattle.std.proofs.lemmas.Option.{MatchOption-at_none, MatchOption-at_some}
+use Rattle.std.proofs.lemmas.Option.{MatchOption-at_some}
 use Rattle.std.proofs.lemmas.Result.{err_from_is_err_and}
-use Rattle.units.specs.Limits.{most_chain, most_places}
-use Rattle.book_keeping.specs.Keeping.{AllOpen}
+use Rattle.units.specs.Limits.{most_chain}
 use Rattle.calls.specs.Calls as Route
 use Rattle.calls.proofs.BookingLaws.{checked_good, checked_holds}
 use Rattle.calls_book.specs.Model.{RefusedFor}
@@ -26,3 +24,51 @@ returns-in_err-call c =
 
 pub lowest_free-requires : goal.lowest_free-requires
 lowest_free-requires c = (checked_good (rw c.in_ok-call.was at c.checks.ensures)).its_book.places_lent
+
+pub returns-in_default : goal.returns-in_default
+unfolding most_chain RefusedFor
+returns-in_default c =
+    let all = rw c.in_ok-call.was at c.checks.ensures in
+    refused_as (checked_holds all) _ c.refuse_full.ensures _ c.if-chain-lt-MOST_CHAIN.false
+
+pub route_good-requires : goal.route_good-requires
+unfolding most_chain
+route_good-requires c = c.if-chain-lt-MOST_CHAIN.false
+
+pub returns-in_err-figures : goal.returns-in_err-figures
+unfolding most_chain
+returns-in_err-figures c =
+    let all = rw c.in_ok-call.was at c.checks.ensures in
+    let p = err_from_is_err_and c.from_residual-in_err-figures.result c.from_residual-in_err-figures.ensures.1 in
+    rw (p.1, p.2)
+    (refused_route (checked_holds all) (checked_good all) _ c.if-chain-lt-MOST_CHAIN.false (sym c.in_err-figures.was ∙ c.route_good.ensures.best)
+    c.route_good.ensures.chain)
+
+pub slice_bounds-book_chain-end : goal.slice_bounds-book_chain-end
+unfolding most_chain
+slice_bounds-book_chain-end c =
+    let all = rw c.in_ok-call.was at c.checks.ensures in
+    counted (checked_holds all) (checked_good all) _ c.if-chain-lt-MOST_CHAIN.false (sym c.in_ok-figures.was ∙ c.route_good.ensures.best)
+    c.route_good.ensures.chain
+
+pub slice_bounds-book_chain-end-2 : goal.slice_bounds-book_chain-end-2
+unfolding most_chain
+slice_bounds-book_chain-end-2 c =
+    let all = rw c.in_ok-call.was at c.checks.ensures in
+    sym (length-take-le _ _
+    (counted (checked_holds all) (checked_good all) _ c.if-chain-lt-MOST_CHAIN.false (sym c.in_ok-figures.was ∙ c.route_good.ensures.best)
+    c.route_good.ensures.chain))
+
+pub book_chain-requires : goal.book_chain-requires
+unfolding most_chain
+book_chain-requires c =
+    let all = rw c.in_ok-call.was at c.checks.ensures in
+    bookable (checked_holds all) (checked_good all) _ c.if-chain-lt-MOST_CHAIN.false (sym c.in_ok-figures.was ∙ c.route_good.ensures.best)
+    c.route_good.ensures.chain (MatchOption-at_some _ _ _ c.in-Some.is c.lowest_free.ensures)
+
+pub returns : goal.returns
+unfolding most_chain
+returns c =
+    let all = rw c.in_ok-call.was at c.checks.ensures in
+    placed_route (checked_holds all) (checked_good all) _ c.if-chain-lt-MOST_CHAIN.false (sym c.in_ok-figures.was ∙ c.route_good.ensures.best)
+    c.route_good.ensures.chain (MatchOption-at_some _ _ _ c.in-Some.is c.lowest_free.ensures) c.book_chain.ensures.places c.book_chain.ensures.chains

@@ -1,11 +1,17 @@
 -- `calls_book::reserving::refuse_full` meets its contract.
 -- Assumes nothing.
 use mathlib.Core.Path.{sym, ◌∙◌}
+use native.Mathlib.Omega.{arith}
+use Rattle.units.specs.Limits.{most_chain}
 use Rattle.calls_book.proofs.PlacingCode.{refuse_any, full_any}
 use Rattle.calls_book.proofs.reserving.refuse_full.Goals as goal
 
-pub returns-in_err : goal.returns-in_err
-returns-in_err c = refuse_any _ (sym c.in_err.was ∙ c.route_good.ensures.answer)
+pub route_good-requires : goal.route_good-requires
+unfolding most_chain
+route_good-requires c = omega arith
 
-pub returns-in_ok : goal.returns-in_ok
-returns-in_ok c = full_any _ c.requires (sym c.in_ok.was ∙ c.route_good.ensures.answer)
+pub returns-in-Err : goal.returns-in-Err
+returns-in-Err c = refuse_any c.args.call.now (sym c.in-Err.is ∙ c.route_good.ensures.best)
+
+pub returns-in-Ok : goal.returns-in-Ok
+returns-in-Ok c = full_any c.args.call.now c.requires (sym c.in-Ok.is ∙ c.route_good.ensures.best)
