@@ -8,25 +8,24 @@
 -- Assumes nothing.
 use Rattle.std.specs.Prelude.{List, ℕ, ◌≤◌, ◌<◌, length, Result}
 use Rattle.units.specs.declared.Ask.{Ask}
-use Rattle.text.specs.declared.answer.PlanRead.{PlanRead}
-use Rattle.text.specs.declared.answer.Written.{Written}
+use Rattle.text.specs.declared.answer.Counts.{Counts}
 use Rattle.text.specs.Calls.{Reads, Writes}
 use Rattle.units.specs.declared.Refusal.{Refusal}
 use Rattle.walk.specs.declared.figures.Figures.{Figures}
 use Rattle.walk.specs.Walk.{Walks}
-use Rattle.search.specs.declared.answer.Routed.{Routed}
+use Rattle.search.specs.declared.answer.Best.{Best}
 use Rattle.search.specs.Route.{Routes}
 use Rattle.board_face.specs.Layout.{answer_words, no_room_number, read_words, written_words, walked_words, routed_words, Answered}
 
 pub data BoardReads (text contacts ranges answer : List ℕ) : ℕ → List ℕ → List ℕ → List ℕ → Type 0 where
   no_room : length answer < answer_words → BoardReads text contacts ranges answer no_room_number contacts ranges answer
-  called : {r : PlanRead} {contacts' ranges' : List ℕ} {number : ℕ} {answer' : List ℕ} → answer_words ≤ length answer
+  called : {r : Result Counts Refusal} {contacts' ranges' : List ℕ} {number : ℕ} {answer' : List ℕ} → answer_words ≤ length answer
       → Reads text contacts ranges r contacts' ranges' → Answered (read_words r) answer number answer'
       → BoardReads text contacts ranges answer number contacts' ranges' answer'
 
 pub data BoardWrites (contacts : List ℕ) (m : ℕ) (ranges : List ℕ) (n : ℕ) (out answer : List ℕ) : ℕ → List ℕ → List ℕ → Type 0 where
   no_room : length answer < answer_words → BoardWrites contacts m ranges n out answer no_room_number out answer
-  called : {r : Written} {out' : List ℕ} {number : ℕ} {answer' : List ℕ} → answer_words ≤ length answer → Writes contacts m ranges n out r out'
+  called : {r : Result ℕ Refusal} {out' : List ℕ} {number : ℕ} {answer' : List ℕ} → answer_words ≤ length answer → Writes contacts m ranges n out r out'
       → Answered (written_words r) answer number answer' → BoardWrites contacts m ranges n out answer number out' answer'
 
 pub data BoardWalks (contacts : List ℕ) (m : ℕ) (ranges : List ℕ) (n : ℕ) (ask : Ask) (chain answer : List ℕ) : ℕ → List ℕ → Type 0 where
@@ -36,6 +35,6 @@ pub data BoardWalks (contacts : List ℕ) (m : ℕ) (ranges : List ℕ) (n : ℕ
 
 pub data BoardRoutes (contacts : List ℕ) (m : ℕ) (ranges : List ℕ) (n : ℕ) (ask : Ask) (chain answer : List ℕ) : ℕ → List ℕ → List ℕ → Type 0 where
   no_room : length answer < answer_words → BoardRoutes contacts m ranges n ask chain answer no_room_number chain answer
-  called : {r : Routed} {chain' : List ℕ} {number : ℕ} {answer' : List ℕ} → answer_words ≤ length answer
+  called : {r : Result Best Refusal} {chain' : List ℕ} {number : ℕ} {answer' : List ℕ} → answer_words ≤ length answer
       → Routes contacts m ranges n ask chain r chain' → Answered (routed_words r) answer number answer'
       → BoardRoutes contacts m ranges n ask chain answer number chain' answer'

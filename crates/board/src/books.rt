@@ -2,8 +2,9 @@
 ghost use Rattle.board_face.specs.Asked.{asked};
 ghost use Rattle.board.specs.Booked.{BoardBooks};
 
-use board_face::{BOOKED_WORDS, ask_of, no_room, put_placed};
+use board_face::{answer_call, ask_of};
 use calls_book::book_route;
+use plan::PlanTables;
 
 // Finds the best chain for the ask that the six numbers are, of that class, over the plan with its book, and
 // books it in the lowest free place.
@@ -27,20 +28,15 @@ pub extern "C" fn oivarnum_book_route(
 ) -> u64
     ensures { BoardBooks contacts.now contact_count ranges.now range_count book.old booked.old (asked source destination time size deadline excluded) class chain.old answer.old result book.new booked.new chain.new answer.new }
 {
-    if answer.len() < BOOKED_WORDS {
-        return no_room();
-    }
     let ask = ask_of(source, destination, time, size, deadline, excluded);
-    let r = book_route(
+    let tables = PlanTables {
         contacts,
         contact_count,
         ranges,
         range_count,
-        book,
-        booked,
-        ask,
-        class,
-        chain,
-    );
-    put_placed(r, answer)
+    };
+    answer_call(
+        answer,
+        &mut || book_route(tables, book, booked, ask, class, chain),
+    )
 }

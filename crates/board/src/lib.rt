@@ -1,7 +1,8 @@
 // The public calls as C functions, for flight software in C or Rust: numbers and slices only. A slice is a
 // pointer and a length. `board_c` exports them in a static archive, and include/oivarnum.h declares them for C.
+// The long parameter lists are that C interface.
 
-#![tactic(auto)]
+#![tactic(auto, using(crate::specs::Faces::no_room, crate::specs::Faces::called, crate::specs::Booked::no_room, crate::specs::Booked::called), unfolding(board_face::specs::Layout::answer_words, board_face::specs::Layout::booked_words))]
 
 mod books;
 mod reads;

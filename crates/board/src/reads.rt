@@ -1,7 +1,7 @@
 // `read` as a C function.
 ghost use Rattle.board.specs.Faces.{BoardReads};
 
-use board_face::{ANSWER_WORDS, no_room, put_read};
+use board_face::answer_call;
 use text_read::read;
 
 // Reads the plan that the text is into the lent tables.
@@ -14,9 +14,5 @@ pub extern "C" fn oivarnum_read(
 ) -> u64
     ensures { BoardReads text.now contacts.old ranges.old answer.old result contacts.new ranges.new answer.new }
 {
-    if answer.len() < ANSWER_WORDS {
-        return no_room();
-    }
-    let r = read(text, contacts, ranges);
-    put_read(r, answer)
+    answer_call(answer, &mut || read(text, contacts, ranges))
 }

@@ -1,8 +1,9 @@
 // `release` as a C function.
 ghost use Rattle.board.specs.Booked.{BoardReleases};
 
-use board_face::{ANSWER_WORDS, no_room, put_released};
+use board_face::answer_call;
 use calls_book::release;
+use plan::PlanTables;
 
 // Frees the place of that number, counted from 1, where it is open.
 #[unsafe(no_mangle)]
@@ -18,17 +19,11 @@ pub extern "C" fn oivarnum_release(
 ) -> u64
     ensures { BoardReleases contacts.now contact_count ranges.now range_count book.old booked.now place answer.old result book.new answer.new }
 {
-    if answer.len() < ANSWER_WORDS {
-        return no_room();
-    }
-    let r = release(
+    let tables = PlanTables {
         contacts,
         contact_count,
         ranges,
         range_count,
-        book,
-        booked,
-        place,
-    );
-    put_released(r, answer)
+    };
+    answer_call(answer, &mut || release(tables, book, booked, place))
 }

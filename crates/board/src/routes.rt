@@ -2,7 +2,8 @@
 ghost use Rattle.board_face.specs.Asked.{asked};
 ghost use Rattle.board.specs.Faces.{BoardRoutes};
 
-use board_face::{ANSWER_WORDS, ask_of, no_room, put_routed};
+use board_face::{answer_call, ask_of};
+use plan::PlanTables;
 use search::route;
 
 // Finds the best chain for the ask that the six numbers are.
@@ -23,10 +24,12 @@ pub extern "C" fn oivarnum_route(
 ) -> u64
     ensures { BoardRoutes contacts.now contact_count ranges.now range_count (asked source destination time size deadline excluded) chain.old answer.old result chain.new answer.new }
 {
-    if answer.len() < ANSWER_WORDS {
-        return no_room();
-    }
     let ask = ask_of(source, destination, time, size, deadline, excluded);
-    let r = route(contacts, contact_count, ranges, range_count, ask, chain);
-    put_routed(r, answer)
+    let tables = PlanTables {
+        contacts,
+        contact_count,
+        ranges,
+        range_count,
+    };
+    answer_call(answer, &mut || route(tables, ask, chain))
 }

@@ -2,8 +2,10 @@
 ghost use Rattle.board_face.specs.Asked.{asked};
 ghost use Rattle.board.specs.Booked.{BoardRoutesBooked};
 
-use board_face::{ANSWER_WORDS, ask_of, no_room, put_routed};
+use board_face::{answer_call, ask_of};
+use book::BookTables;
 use calls::route_booked;
+use plan::PlanTables;
 
 // Finds the best chain for the ask that the six numbers are, of that class, over the plan with its book.
 #[unsafe(no_mangle)]
@@ -26,20 +28,19 @@ pub extern "C" fn oivarnum_route_booked(
 ) -> u64
     ensures { BoardRoutesBooked contacts.now contact_count ranges.now range_count book.now booked.now (asked source destination time size deadline excluded) class chain.old answer.old result chain.new answer.new }
 {
-    if answer.len() < ANSWER_WORDS {
-        return no_room();
-    }
     let ask = ask_of(source, destination, time, size, deadline, excluded);
-    let r = route_booked(
+    let tables = PlanTables {
         contacts,
         contact_count,
         ranges,
         range_count,
-        book,
-        booked,
-        ask,
-        class,
-        chain,
-    );
-    put_routed(r, answer)
+    };
+    let places = BookTables {
+        places: book,
+        chains: booked,
+    };
+    answer_call(
+        answer,
+        &mut || route_booked(tables, places, ask, class, chain),
+    )
 }

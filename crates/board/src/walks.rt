@@ -2,7 +2,8 @@
 ghost use Rattle.board_face.specs.Asked.{asked};
 ghost use Rattle.board.specs.Faces.{BoardWalks};
 
-use board_face::{ANSWER_WORDS, ask_of, no_room, put_walked};
+use board_face::{answer_call, ask_of};
+use plan::PlanTables;
 use walk::walk;
 
 // Times the chain given for the ask that the six numbers are.
@@ -23,10 +24,12 @@ pub extern "C" fn oivarnum_walk(
 ) -> u64
     ensures { BoardWalks contacts.now contact_count ranges.now range_count (asked source destination time size deadline excluded) chain.now answer.old result answer.new }
 {
-    if answer.len() < ANSWER_WORDS {
-        return no_room();
-    }
     let ask = ask_of(source, destination, time, size, deadline, excluded);
-    let w = walk(contacts, contact_count, ranges, range_count, ask, chain);
-    put_walked(w, answer)
+    let tables = PlanTables {
+        contacts,
+        contact_count,
+        ranges,
+        range_count,
+    };
+    answer_call(answer, &mut || walk(tables, ask, chain))
 }

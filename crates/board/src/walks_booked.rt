@@ -2,8 +2,10 @@
 ghost use Rattle.board_face.specs.Asked.{asked};
 ghost use Rattle.board.specs.Booked.{BoardWalksBooked};
 
-use board_face::{ANSWER_WORDS, ask_of, no_room, put_walked};
+use board_face::{answer_call, ask_of};
+use book::BookTables;
 use calls::walk_booked;
+use plan::PlanTables;
 
 // Times the chain given for the ask that the six numbers are, of that class, over the plan with its book.
 #[unsafe(no_mangle)]
@@ -26,20 +28,19 @@ pub extern "C" fn oivarnum_walk_booked(
 ) -> u64
     ensures { BoardWalksBooked contacts.now contact_count ranges.now range_count book.now booked.now (asked source destination time size deadline excluded) class chain.now answer.old result answer.new }
 {
-    if answer.len() < ANSWER_WORDS {
-        return no_room();
-    }
     let ask = ask_of(source, destination, time, size, deadline, excluded);
-    let w = walk_booked(
+    let tables = PlanTables {
         contacts,
         contact_count,
         ranges,
         range_count,
-        book,
-        booked,
-        ask,
-        class,
-        chain,
-    );
-    put_walked(w, answer)
+    };
+    let places = BookTables {
+        places: book,
+        chains: booked,
+    };
+    answer_call(
+        answer,
+        &mut || walk_booked(tables, places, ask, class, chain),
+    )
 }

@@ -1,7 +1,7 @@
 // `write` as a C function.
 ghost use Rattle.board.specs.Faces.{BoardWrites};
 
-use board_face::{ANSWER_WORDS, no_room, put_written};
+use board_face::answer_call;
 use text_write::write;
 
 // Writes the text of the plan that the tables hold.
@@ -16,9 +16,8 @@ pub extern "C" fn oivarnum_write(
 ) -> u64
     ensures { BoardWrites contacts.now contact_count ranges.now range_count out.old answer.old result out.new answer.new }
 {
-    if answer.len() < ANSWER_WORDS {
-        return no_room();
-    }
-    let w = write(contacts, contact_count, ranges, range_count, out);
-    put_written(w, answer)
+    answer_call(
+        answer,
+        &mut || write(contacts, contact_count, ranges, range_count, out),
+    )
 }

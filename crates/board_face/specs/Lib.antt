@@ -1,2 +1,4 @@
 pub mod Asked
 pub mod Layout
+pub mod WordKinds
+pub mod WordLaws

@@ -4,7 +4,8 @@ ghost use Rattle.board_face.specs.Asked.{asked};
 
 use units::{Ask, Millis, NodeNo};
 
-// The ask that the six numbers are, in the order of an ask line.
+// The ask that the six numbers are, in the order of an ask line. Six parameters and no struct, since the C
+// interface passes them so.
 pub fn ask_of(
     source: u64,
     destination: u64,
