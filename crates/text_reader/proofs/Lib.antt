@@ -1,4 +1,2 @@
--- What the code of the reader knows of the model.
-pub mod Again
+-- What the reader knows of the model.
 pub mod StepCode
-pub mod Turns

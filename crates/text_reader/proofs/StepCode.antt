@@ -1,63 +1,56 @@
--- What one step of the reader knows of the model.
---     line_past, line_within        what the line at a place says: no line feed ends it, or one does
---     line_end_lem                      where the line at a place ends
---     line_counted, line_stopped    how far the reading is after it, and to which outcome it leads
---     line_left, all_read           whether a line is left, and the answer when the reading goes on no more
---     body_gives                    from the first line on
+-- What one line of the reader knows of the model.
+--     line_fits, line_ended, line_unended      where the next line ends, and what it says
+--     line_taken, line_refused                 one line taken, and one refused: to which outcome the rest leads
+--     all_read                                 the outcome when no line is left
 -- Assumes nothing.
-use mathlib.Core.Bool.{Bool, true, false, ◌&&◌}
-use mathlib.Core.List.{List, [], ◌∷◌}
-use mathlib.Core.Path.{◌≡◌, refl, sym, ap, ap₂, ◌∙◌, subst}
-use Prim.Native.Nat.{ℕ, suc, ◌+◌, ◌-◌, ◌≤◌, ◌<◌}
-use native.Mathlib.Decide.{dec_le}
-use native.Mathlib.Nat.{lt_of_not-le}
-use native.Mathlib.Numerals.{add-one}
-use native.Mathlib.Omega.{arith}
-use borrow.Author.Tests.{lt-ltb, le-ltb, ltb-false}
-use lib.Dec.{ltb}
-use lib.ListN.{length, get_or, take, drop, length-drop, drop_of_length-le}
-use lib.Seq.{drop-drop}
+use Rattle.std.proofs.Common.{Bool, true, false, ◌&&◌, ◌≡◌, ℕ, suc, ◌+◌, ◌-◌, ◌≤◌, ◌<◌, List, [], ◌∷◌, length, take, drop, refl, sym, ap, ◌∙◌, arith, add-one, length-drop, Some, None, Ok, Err}
+use mathlib.Core.Bool.{and-false}
+use mathlib.Core.Path.{ap₂}
+use native.Mathlib.Decide.{dec_lt}
+use borrow.Author.Tests.{lt-ltb, le-ltb}
+use lib.ListN.{drop_of_length-le}
 use Rattle.units.specs.declared.Refusal.{Refusal}
 use Rattle.units.specs.Limits.{most_contacts, most_ranges}
 use Rattle.plan.specs.Plan.{Plan}
-use Rattle.plan.specs.Tables.{rows_from, plan_of}
-use Rattle.text.specs.declared.said.Said.{Said}
-use Rattle.text.specs.declared.said.Said.TheVariants.{Nothing}
-use Rattle.text.specs.declared.answer.PlanRead.{PlanRead}
+use Rattle.plan.specs.Tables.{plan_of}
+use Rattle.text.specs.declared.answer.Counts.{Counts}
 use Rattle.text.specs.Lines.{line_feed, Line, lines_of}
-use Rattle.text.specs.Model.{up_to, line_in, is_shaped, said_by, capped_said, Judged, faulty, taken, judge, read_lines, no_rows}
-use Rattle.text.specs.Reading.{Outcome, Accepted, Refused, refusal_of}
-use Rattle.text.specs.Rows.{header}
+use Rattle.text.specs.Model.{Said, up_to, line_in, is_shaped, said_by, capped_said, Judged, faulty, taken, judge, read_lines}
+use Rattle.text.specs.Reading.{Accepted, Refused, refusal_of}
 use Rattle.text_rows.specs.Tables.{outcome_at, Gives, rows, refused}
-use Rattle.text_reader.specs.declared.step.SoFar.{SoFar}
-use Rattle.text_reader.specs.declared.step.SoFar.TheVariants.{Taken, Stopped}
-use Rattle.text_reader.specs.Places.{body_start, line_end}
-use Rattle.text_reader.specs.Steps.{line_said, counted_of, goes_on, answer_of, Sound, outcome_from}
-use Rattle.text_lines.proofs.BytesCode.{from_place}
+use Rattle.text_reader.specs.Places.{first_said, behind_first}
 use Rattle.text.proofs.Capped.{capped_judged}
 use Rattle.text.proofs.Cuts.{up_to_le, lines_cut, lines_left, line_in_ended}
 
--- ---- what the line says
+-- ---- the line at a place
 
-module _ (text : List ℕ) (at after : ℕ) where
-  pub line_past : length text < after → Nothing ≡ line_said text at after
-  unfolding line_said
-  line_past h = rw (lt-ltb (length text) after h) refl
+module _ (text : List ℕ) (at : ℕ) (left : List ℕ) (is_left : drop at text ≡ left) (end : ℕ) (ends : end ≡ at + up_to line_feed (drop at text)) where
+  long : length left ≡ length text - at
+  long = ap length (sym is_left) ∙ length-drop at text
 
-  pub line_within : after ≤ length text → line_said text at after ≡ capped_said (said_by (line_in (take (after - 1 - at) (drop at text)) true))
-  unfolding line_said
-  line_within h = rw (le-ltb (length text) after h) refl
+  stop : end ≡ at + up_to line_feed left
+  stop = ends ∙ ap (λ (bs : List ℕ). at + up_to line_feed bs) is_left
+
+  pub line_fits : 0 < length left → end ≤ length text
+  line_fits some = omega (arith, stop, long, up_to_le line_feed left)
+
+  pub line_unended : 0 < length left → length text < end + 1 → None ≡ first_said left
+  unfolding first_said
+  line_unended some h = rw (le-ltb (up_to line_feed left) (length left) (omega (arith, stop, long)))
+
+  pub line_ended : end + 1 ≤ length text → capped_said (said_by (line_in (take (end + 1 - 1 - at) (drop at text)) true)) ≡ first_said left
+  unfolding first_said
+  line_ended h =
+      let n : end + 1 - 1 - at ≡ up_to line_feed left = omega (arith, stop) in
+      rw (lt-ltb (up_to line_feed left) (length left) (omega (arith, stop, long)))
+      (ap₂ (λ (k : ℕ) (bs : List ℕ). capped_said (said_by (line_in (take k bs) true))) n is_left)
 
 -- ---- one line of the model
 
 -- a line of which nothing is known but that no line feed ended it
-unended_said : (bs : List ℕ) → said_by (line_in bs false) ≡ Nothing
+unended_said : (bs : List ℕ) → said_by (line_in bs false) ≡ None
 unfolding said_by is_shaped
-unended_said bs = rw (line_in_ended bs false, and-false _, and-false _)
-  where
-    and-false : (a : Bool) → a && false ≡ false
-    and-false true = refl
-    and-false false = refl
+unended_said bs = simp (line_in_ended, and-false)
 
 module _ (n : ℕ) (p : Plan) (l : Line) (ls : List Line) where
   step_taken : (q : Plan) → outcome_at n (judge p (said_by l)) ≡ Accepted q → read_lines n p (l ∷ ls) ≡ read_lines (suc n) q ls
@@ -65,7 +58,7 @@ module _ (n : ℕ) (p : Plan) (l : Line) (ls : List Line) where
   step_taken q = go (judge p (said_by l))
     where
       go : (j : Judged) → outcome_at n j ≡ Accepted q → elim j [ faulty f ↦ Refused (refusal_of f n) | taken r ↦ read_lines (suc n) r ls ] ≡ read_lines (suc n) q ls
-      go (faulty f) e = let z : ◌≡◌ {A = ℕ} 0 1 = cc in absurd (omega arith)
+      go (faulty f) e = cc
       go (taken r) e = let same : r ≡ q = cc in ap (λ (s : Plan). read_lines (suc n) s ls) same
 
   step_refused : (why : Refusal) → outcome_at n (judge p (said_by l)) ≡ Refused why → read_lines n p (l ∷ ls) ≡ Refused why
@@ -74,112 +67,70 @@ module _ (n : ℕ) (p : Plan) (l : Line) (ls : List Line) where
     where
       go : (j : Judged) → outcome_at n j ≡ Refused why → elim j [ faulty f ↦ Refused (refusal_of f n) | taken r ↦ read_lines (suc n) r ls ] ≡ Refused why
       go (faulty f) e = e
-      go (taken r) e = let z : ◌≡◌ {A = ℕ} 0 1 = cc in absurd (omega arith)
+      go (taken r) e = cc
 
--- ---- the line at a place
+-- ---- the first of the lines that are left
 
-pub line_end_lem : (text : List ℕ) (at end : ℕ) → at < length text → end ≡ line_end text at → end ≤ length text
-line_end_lem text at end inside ends = omega (arith, up_to_le line_feed (drop at text), length-drop at text)
-
-module _ (text : List ℕ) (at after : ℕ) (inside : at < length text) (ends : after ≡ line_end text at + 1) where
-  -- the first of the lines from the place on, and that the line read is judged as it is
-  record First (n : ℕ) (p : Plan) : Type 0 where
+module _ (n : ℕ) (p : Plan) where
+  -- that line, and that what it is read to say is judged as it is
+  record First (left : List ℕ) : Type 0 where
     line : Line
-    leads : lines_of (drop at text) ≡ line ∷ lines_of (drop after text)
-    judged : outcome_at n (judge p (line_said text at after)) ≡ outcome_at n (judge p (said_by line))
+    leads : lines_of left ≡ line ∷ lines_of (behind_first left)
+    judged : outcome_at n (judge p (first_said left)) ≡ outcome_at n (judge p (said_by line))
 
-  first_ended : (n : ℕ) (p : Plan) → after ≤ length text → First n p
-  first_ended n p h =
-      let u : up_to line_feed (drop at text) ≡ after - 1 - at = omega arith in
-      let next : at + suc (up_to line_feed (drop at text)) ≡ after = omega arith in
+  first_ended : (left : List ℕ) → up_to line_feed left < length left → First left
+  unfolding first_said
+  first_ended left h =
+      let u : ℕ = up_to line_feed left in
       record {
-        line = line_in (take (after - 1 - at) (drop at text)) true;
-        leads = lines_cut (drop at text) (omega (arith, length-drop at text))
-            ∙ ap₂ (λ (a b : List ℕ). line_in a true ∷ lines_of b) (ap (λ (k : ℕ). take k (drop at text)) u)
-            (drop-drop (suc (up_to line_feed (drop at text))) at text ∙ ap (λ (k : ℕ). drop k text) next);
-        judged = ap (outcome_at n) (ap (judge p) (line_within text at after h) ∙ capped_judged p (said_by (line_in (take (after - 1 - at) (drop at text)) true)));
+        line = line_in (take u left) true;
+        leads = lines_cut left h ∙ ap (λ (k : ℕ). line_in (take u left) true ∷ lines_of (drop k left)) (sym (add-one u));
+        judged = rw (lt-ltb u (length left) h) (ap (outcome_at n) (capped_judged p (said_by (line_in (take u left) true))));
       }
 
-  first_unended : (n : ℕ) (p : Plan) → length text < after → First n p
-  unfolding lines_of
-  first_unended n p h =
-      let here = from_place text at inside in
-      let all : up_to line_feed (get_or text at 0 ∷ drop (at + 1) text) ≡ length (get_or text at 0 ∷ drop (at + 1) text) =
-      subst (λ (bs : List ℕ). up_to line_feed bs ≡ length bs) here (omega (arith, up_to_le line_feed (drop at text), length-drop at text))
-      in
-      let past : length text ≤ after = omega arith in
-      let none : lines_of (drop after text) ≡ [] = ap lines_of (drop_of_length-le text past) in
+  first_unended : (left : List ℕ) → 0 < length left → up_to line_feed left ≡ length left → First left
+  unfolding first_said lines_of
+  first_unended [] some all = absurd (omega arith)
+  first_unended (b ∷ bs) some all =
+      let none : drop (up_to line_feed (b ∷ bs) + 1) (b ∷ bs) ≡ [] = drop_of_length-le (b ∷ bs) (omega (arith, all)) in
       record {
-        line = line_in (get_or text at 0 ∷ drop (at + 1) text) false;
-        leads = ap lines_of here ∙ lines_left (get_or text at 0) (drop (at + 1) text) all
-            ∙ ap (λ (ls : List Line). line_in (get_or text at 0 ∷ drop (at + 1) text) false ∷ ls) (sym none);
-        judged = ap (λ (s : Said). outcome_at n (judge p s)) (sym (line_past text at after h) ∙ sym (unended_said (get_or text at 0 ∷ drop (at + 1) text)));
+        line = line_in (b ∷ bs) false;
+        leads = lines_left b bs all ∙ ap (λ (ls : List ℕ). line_in (b ∷ bs) false ∷ lines_of ls) (sym none);
+        judged = rw (le-ltb (up_to line_feed (b ∷ bs)) (length (b ∷ bs)) (omega (arith, all)))
+            (ap (λ (s : Said). outcome_at n (judge p s)) (sym (unended_said (b ∷ bs))));
       }
 
-  first : (n : ℕ) (p : Plan) → First n p
-  first n p = elim (dec_le after (length text)) [ yes h ↦ first_ended n p h | no h ↦ first_unended n p (lt_of_not-le h) ]
+  first : (left : List ℕ) → 0 < length left → First left
+  first left some =
+      elim (dec_lt (up_to line_feed left) (length left))
+      [ yes h ↦ first_ended left h | no h ↦ first_unended left some (omega (arith, up_to_le line_feed left)) ]
 
-  module _ (reached : SoFar) (m n line : ℕ) (er : reached ≡ Taken m n line) (sound : Sound at reached) where
-    pub sound_counts : (m ≤ most_contacts) × (n ≤ most_ranges) × (line ≤ at)
-    sound_counts = subst (Sound at) er sound
+  module _ (left : List ℕ) (some : 0 < length left) (said : Said) (says : said ≡ first_said left) where
+    one : First left
+    one = first left some
 
-    module _ (contacts ranges : List ℕ) (said : Said) (es : said ≡ line_said text at after) (contacts' ranges' : List ℕ) (answer : PlanRead)
-        (gives : Gives (outcome_at line (judge (plan_of contacts m ranges n) said)) contacts' ranges' answer) where
-      pub line_counted : (s : SoFar) → s ≡ counted_of answer line
-          → Sound after s × (outcome_from text after contacts' ranges' s ≡ outcome_from text at contacts ranges reached)
-      unfolding outcome_from
-      line_counted s e = subst Goal (sym e) (go gives)
-        where
-          p : Plan
-          p = plan_of contacts m ranges n
+    told : outcome_at n (judge p said) ≡ outcome_at n (judge p (said_by one.line))
+    told = ap (λ (s : Said). outcome_at n (judge p s)) says ∙ one.judged
 
-          Goal : SoFar → Type 0
-          Goal t = Sound after t × (outcome_from text after contacts' ranges' t ≡ outcome_from text at contacts ranges reached)
+    pub record LineTaken (contacts ranges : List ℕ) (k : Counts) : Type 0 where
+      pub contacts_fit : k.contacts ≤ most_contacts
+      pub ranges_fit : k.ranges ≤ most_ranges
+      pub leads : read_lines (n + 1) (plan_of contacts k.contacts ranges k.ranges) (lines_of (behind_first left)) ≡ read_lines n p (lines_of left)
 
-          one : First line p
-          one = first line p
+    pub line_taken : {contacts ranges : List ℕ} {k : Counts} → Gives (outcome_at n (judge p said)) contacts ranges (Ok k) → LineTaken contacts ranges k
+    line_taken {contacts} {ranges} (rows x y hx hy o) = record {
+      contacts_fit = hx;
+      ranges_fit = hy;
+      leads =
+          ap (λ (i : ℕ). read_lines i (plan_of contacts x ranges y) (lines_of (behind_first left))) (add-one n)
+          ∙ sym (ap (read_lines n p) one.leads ∙ step_taken n p one.line (lines_of (behind_first left)) (plan_of contacts x ranges y) (sym told ∙ o));
+    }
 
-          asked : outcome_from text at contacts ranges reached ≡ read_lines line p (one.line ∷ lines_of (drop after text))
-          asked = ap (outcome_from text at contacts ranges) er ∙ ap (read_lines line p) one.leads
+    pub line_refused : {contacts ranges : List ℕ} {why : Refusal} → Gives (outcome_at n (judge p said)) contacts ranges (Err why) → read_lines n p (lines_of left) ≡ Refused why
+    line_refused (refused why o) =
+        ap (read_lines n p) one.leads ∙ step_refused n p one.line (lines_of (behind_first left)) why (sym told ∙ o)
 
-          judged : outcome_at line (judge p said) ≡ outcome_at line (judge p (said_by one.line))
-          judged = ap (λ (x : Said). outcome_at line (judge p x)) es ∙ one.judged
-
-          go : {a : PlanRead} → Gives (outcome_at line (judge p said)) contacts' ranges' a → Goal (counted_of a line)
-          go (rows x y hx hy o) = (
-            (hx, hy, omega (arith, sound_counts.2)),
-            sym (asked ∙ step_taken line p one.line (lines_of (drop after text)) (plan_of contacts' x ranges' y) (sym judged ∙ o)
-                ∙ ap (λ (k : ℕ). read_lines k (plan_of contacts' x ranges' y) (lines_of (drop after text))) (sym (add-one line))),
-          )
-          go (refused w o) = (tt, sym (asked ∙ step_refused line p one.line (lines_of (drop after text)) w (sym judged ∙ o)))
-
-pub line_stopped : (text contacts ranges : List ℕ) (at after : ℕ) (reached : SoFar) (why : Refusal) → reached ≡ Stopped why
-    → Sound after (Stopped why) × (outcome_from text after contacts ranges (Stopped why) ≡ outcome_from text at contacts ranges reached)
-unfolding outcome_from
-line_stopped text contacts ranges at after reached why e = (tt, sym (ap (outcome_from text at contacts ranges) e))
-
-pub all_read : (text contacts ranges : List ℕ) (at : ℕ) (s : SoFar) → goes_on s (ltb at (length text)) ≡ false → Sound at s
-    → Gives (outcome_from text at contacts ranges s) contacts ranges (answer_of s)
-unfolding outcome_from goes_on read_lines lines_of
-all_read text contacts ranges at (Taken m n line) h sound =
-    rows m n sound.0 sound.1
-    (ap (λ (bs : List ℕ). read_lines line (plan_of contacts m ranges n) (lines_of bs)) (drop_of_length-le text (ltb-false at (length text) h)))
-all_read text contacts ranges at (Stopped why) h sound = refused why refl
-
-pub line_left : (s : SoFar) (more : Bool) → goes_on s more ≡ true → more ≡ true
-unfolding goes_on
-line_left (Taken m n line) more h = h
-line_left (Stopped why) more h = let z : ◌≡◌ {A = ℕ} 0 1 = cc in absurd (omega arith)
-
--- ---- from the first line on
-
-lines_begin : (contacts ranges text : List ℕ) → read_lines 2 no_rows (lines_of (drop (length header) text)) ≡ outcome_from text body_start contacts ranges (Taken 0 0 2)
-unfolding header no_rows plan_of rows_from outcome_from
-lines_begin contacts ranges text = refl
-
-pub body_gives : (contacts ranges text contacts' ranges' : List ℕ) (s : SoFar) (r : PlanRead) → r ≡ answer_of s
-    → Gives (outcome_from text body_start contacts ranges (Taken 0 0 2)) contacts' ranges' (answer_of s)
-    → Gives (read_lines 2 no_rows (lines_of (drop (length header) text))) contacts' ranges' r
-body_gives contacts ranges text contacts' ranges' s r e gives =
-    subst (Gives (read_lines 2 no_rows (lines_of (drop (length header) text))) contacts' ranges') (sym e)
-    (subst (λ (o : Outcome). Gives o contacts' ranges' (answer_of s)) (sym (lines_begin contacts ranges text)) gives)
+  pub all_read : (left : List ℕ) → length left ≤ 0 → read_lines n p (lines_of left) ≡ Accepted p
+  unfolding read_lines lines_of
+  all_read [] h = refl
+  all_read (b ∷ bs) h = absurd (omega arith)

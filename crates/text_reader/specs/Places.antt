@@ -1,13 +1,18 @@
--- The places at which the reader stands. A reader of the promises may skip it.
---     body_start      behind the header
---     line_end        where the line that begins at a place ends: at its line feed, or where the text does
+-- The bytes that are left to the reader. A reader of the promises may skip it.
+--     body_of           those behind the header
+--     first_said        what the first line of them says
+--     behind_first      those behind that line
 -- Assumes nothing.
-use Rattle.std.specs.Prelude.{List, ℕ, ◌+◌, drop}
+use Rattle.std.specs.Prelude.{true, cond, List, ℕ, ◌+◌, ltb, length, take, drop, None}
 use Rattle.text.specs.Lines.{line_feed}
-use Rattle.text.specs.Model.{up_to}
+use Rattle.text.specs.Model.{Said, up_to, line_in, said_by, capped_said}
 
-abbrev pub body_start : ℕ
-body_start = 7
+abbrev pub body_of : List ℕ → List ℕ
+body_of text = drop 7 text
 
-abbrev pub line_end : List ℕ → ℕ → ℕ
-line_end text at = at + up_to line_feed (drop at text)
+-- a line that no line feed ends says nothing
+unfoldable pub first_said : List ℕ → Said
+first_said left = cond (ltb (up_to line_feed left) (length left)) (capped_said (said_by (line_in (take (up_to line_feed left) left) true))) None
+
+abbrev pub behind_first : List ℕ → List ℕ
+behind_first left = drop (up_to line_feed left + 1) left

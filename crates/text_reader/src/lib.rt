@@ -4,7 +4,6 @@
 #![tactic(auto)]
 
 mod place;
-mod step;
 mod through;
 
 pub use through::read_lines;
