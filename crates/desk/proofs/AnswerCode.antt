@@ -11,6 +11,7 @@ use Prim.Native.Nat.{ℕ, zero, suc, ◌+◌, ◌≤◌, ◌<◌}
 use native.Mathlib.Omega.{arith}
 use lib.ListN.{length, get_or, take, drop, length-append}
 use lib.Seq.{drop-cons, take-length}
+use Rattle.std.specs.Prelude.{Result, Ok, Err}
 use Rattle.units.specs.Limits.{most_chain}
 use Rattle.units.specs.Refusals.{number_of, place_of}
 use Rattle.units.specs.declared.Refusal.{Refusal}
@@ -19,13 +20,9 @@ use Rattle.plan.specs.Tables.{rows_from}
 use Rattle.text.specs.Digits.{decimal}
 use Rattle.text.specs.Lines.{line_feed, glue_fields, glue_line}
 use Rattle.text.specs.Rows.{line_of}
-use Rattle.text.specs.declared.answer.Written.{Written}
-use Rattle.text.specs.declared.answer.Written.TheVariants.{Length, Refused as NotWritten}
 use Rattle.text_write.specs.Model.{Wrote, words_from, field_bytes}
 use Rattle.text_write.proofs.PutCode.{wrote_front, Onward, onward_start, onward_room, onward_step, onward_as}
-use Rattle.walk.specs.declared.figures.Figures.{Figures}
-use Rattle.search.specs.declared.answer.Routed.{Routed}
-use Rattle.search.specs.declared.answer.Routed.TheVariants.{Best, Refused}
+use Rattle.search.specs.declared.answer.Best.{Best}
 use Rattle.desk.specs.Answers.{route_word, refused_word, answer_line, answer_bytes, HasChain, of_best, of_refusal, WritesAnswer, no_chain, too_short, written}
 use Rattle.desk.specs.Writing.{line_bytes, WritesLine, too_short as line-too-short, written as line-written}
 
@@ -108,48 +105,48 @@ module _ (word first rest : List ℕ) (count : ℕ) (few : count ≤ length rest
 -- ---- what writing it gives
 
 module _ (bytes out : List ℕ) (needed : ℕ) (e : needed ≡ length bytes) where
-  pub line_short : length out < needed → WritesLine bytes out (NotWritten (ShortOutput needed)) out
+  pub line_short : length out < needed → WritesLine bytes out (Err (ShortOutput needed)) out
   line_short h = rw e (line-too-short (omega arith))
 
-  pub line_done : needed ≤ length out → (last : List ℕ) (r : ℕ) → Wrote out 0 bytes last r → WritesLine bytes out (Length needed) last
+  pub line_done : needed ≤ length out → (last : List ℕ) (r : ℕ) → Wrote out 0 bytes last r → WritesLine bytes out (Ok needed) last
   line_done h last r w = rw (e, wrote_front w) (line-written (omega arith))
 
 -- ---- the answers
 
-answered : {answer : Routed} {chain out last : List ℕ} {r : Written} → HasChain chain answer → WritesLine (answer_bytes answer chain) out r last
+answered : {answer : Result Best Refusal} {chain out last : List ℕ} {r : Result ℕ Refusal} → HasChain chain answer → WritesLine (answer_bytes answer chain) out r last
     → WritesAnswer answer chain out r last
 answered has (line-too-short h) = too_short has h
 answered has (line-written h) = written has h
 
-module _ (f : Figures) (count : ℕ) (chain out : List ℕ) where
-  pub best_many : most_chain < count → WritesAnswer (Best f count) chain out (NotWritten NoPlan) out
+module _ (best : Best) (chain out : List ℕ) where
+  pub best_many : most_chain < best.count → WritesAnswer (Ok best) chain out (Err NoPlan) out
   best_many h = no_chain many
     where
-      many : HasChain chain (Best f count) → ⊥
+      many : HasChain chain (Ok best) → ⊥
       many (of_best m l) = omega arith
 
-  pub best_few : length chain < count → WritesAnswer (Best f count) chain out (NotWritten NoPlan) out
+  pub best_few : length chain < best.count → WritesAnswer (Ok best) chain out (Err NoPlan) out
   best_few h = no_chain few
     where
-      few : HasChain chain (Best f count) → ⊥
+      few : HasChain chain (Ok best) → ⊥
       few (of_best m l) = omega arith
 
-  pub best_written : count ≤ most_chain → count ≤ length chain → (r : Written) (last : List ℕ)
-      → WritesLine (line_bytes route_word (f.delivery.0 ∷ f.opens.0 ∷ f.last_call.0 ∷ f.room ∷ count ∷ []) chain count) out r last
-      → WritesAnswer (Best f count) chain out r last
+  pub best_written : best.count ≤ most_chain → best.count ≤ length chain → (r : Result ℕ Refusal) (last : List ℕ)
+      → WritesLine (line_bytes route_word (best.figures.delivery.0 ∷ best.figures.opens.0 ∷ best.figures.last_call.0 ∷ best.figures.room ∷ best.count ∷ []) chain best.count) out r last
+      → WritesAnswer (Ok best) chain out r last
   unfolding line_bytes answer_bytes answer_line
   best_written m l r last w = answered (of_best m l) w
 
-module _ (why : Refusal) (out : List ℕ) (r : Written) (last : List ℕ) where
+module _ (why : Refusal) (out : List ℕ) (r : Result ℕ Refusal) (last : List ℕ) where
   pub refused_line : (n p : ℕ) → n ≡ number_of why → p ≡ place_of why → WritesLine (line_bytes refused_word (n ∷ p ∷ []) [] 0) out r last
-      → WritesLine (answer_bytes (Refused why) []) out r last
+      → WritesLine (answer_bytes (Err why) []) out r last
   unfolding line_bytes answer_bytes answer_line
   refused_line n p en ep w = rw (← en, ← ep) w
 
-  pub refused_written : (chain : List ℕ) → WritesLine (answer_bytes (Refused why) []) out r last → WritesAnswer (Refused why) chain out r last
+  pub refused_written : (chain : List ℕ) → WritesLine (answer_bytes (Err why) []) out r last → WritesAnswer (Err why) chain out r last
   unfolding answer_bytes answer_line
   refused_written chain w = answered of_refusal w
 
-pub answer_is : (answer told : Routed) (chain out : List ℕ) (r : Written) (last : List ℕ) → answer ≡ told → WritesAnswer told chain out r last
+pub answer_is : (answer told : Result Best Refusal) (chain out : List ℕ) (r : Result ℕ Refusal) (last : List ℕ) → answer ≡ told → WritesAnswer told chain out r last
     → WritesAnswer answer chain out r last
 answer_is answer told chain out r last e w = rw e w

@@ -8,10 +8,10 @@ use Rattle.desk.proofs.answer.write_best.Goals as goal
 
 pub returns-then-count-gt-MOST_CHAIN : goal.returns-then-count-gt-MOST_CHAIN
 unfolding most_chain
-returns-then-count-gt-MOST_CHAIN c = best_many _ _ _ _ c.if-count-gt-MOST_CHAIN.true
+returns-then-count-gt-MOST_CHAIN c = best_many _ _ _ c.if-count-gt-MOST_CHAIN.true
 
 pub returns-then-chain-count : goal.returns-then-chain-count
-returns-then-chain-count c = best_few _ _ _ _ c.if-chain-count.true
+returns-then-chain-count c = best_few _ _ _ c.if-chain-count.true
 
 pub write_line-requires : goal.write_line-requires
 unfolding most_chain
@@ -20,4 +20,4 @@ write_line-requires c = search rules
 pub returns : goal.returns
 unfolding most_chain route_word
 returns c =
-    best_written _ _ _ _ c.if-count-gt-MOST_CHAIN.false c.if-chain-count.false _ _ c.write_line.ensures
+    best_written _ _ _ c.if-count-gt-MOST_CHAIN.false c.if-chain-count.false _ _ c.write_line.ensures
