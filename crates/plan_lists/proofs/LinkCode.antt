@@ -1,5 +1,4 @@
 -- What the code knows that links the rows, from the last to the first.
---     fill_more                              one word more is set
 --     LinkedFrom                             the rows from row i on are linked
 --     linked_none, linked_row, linked_all    none, one row more, and all of them
 --     followed_last, followed_tells          a row that is the last of its slot, and one that is not
@@ -8,37 +7,37 @@
 --     slot_found                             the slot that is found for a row is that row's
 --     node_read, node_found                  the node that a contact is from, read from its row
 -- Assumes nothing.
-use mathlib.Core.Bool.{Bool, true, false}
+use mathlib.Core.Bool.{Bool, true, false, ◌&&◌}
+use Rattle.std.proofs.Math.Bool.{and-true, and-false}
 use mathlib.Core.List.{List}
 use mathlib.Core.Path.{◌≡◌, sym, ap, ◌∙◌, subst}
-use Prim.Native.Nat.{ℕ, suc, ◌+◌, ◌-◌, ◌≤◌, ◌<◌}
+use Prim.Native.Nat.{ℕ, suc, ◌-◌, ◌≤◌, ◌<◌}
 use native.Mathlib.Decide.{ℕ_discrete}
 use native.Mathlib.Omega.{arith}
-use borrow.Author.Count.{below_more}
+use Rattle.std.proofs.lemmas.List.{length-replicate, get_or-replicate}
 use lib.Dec.{leb}
-use lib.ListN.{length, get_or, set, length-set}
+use lib.ListN.{length, get_or, set, replicate, length-set}
 use lib.Seq.{get_or-set_same, get_or-set_other}
 use Rattle.units.specs.Limits.{most_nodes, IsNode}
 use Rattle.plan.specs.declared.rows.Contact.{Contact}
 use Rattle.plan.specs.declared.rows.Span.{Span}
 use Rattle.plan.specs.Tables.{contact_at, span_at}
-use Rattle.plan.specs.Verdict.{Verdict, holds, fails}
-use Rattle.plan.proofs.Verdicts.{tells_le, restated, true_holds, false_fails}
+use Rattle.plan.specs.Verdict.{Verdict, holds}
+use Rattle.plan.proofs.Verdicts.{tells_le, both, restated}
 use Rattle.plan_lists.specs.Leaving.{from_at}
 use Rattle.plan_lists.specs.Lists.{LeastFrom, Nexts, Linked, pair_slot, slot_at, Followed, InOrder}
-
-pub fill_more : (l : List ℕ) (i w : ℕ) → i < length l → ((j : ℕ) → j < i → get_or l j 0 ≡ w) → (j : ℕ) → j < i + 1 → get_or (set l i w) j 0 ≡ w
-fill_more l i w h before =
-    below_more (λ j. get_or (set l i w) j 0 ≡ w) i (λ j l'. get_or-set_other l i j w 0 (λ s. omega arith) ∙ before j l') (get_or-set_same l i w 0 h)
 
 pub record LinkedFrom (key : ℕ → ℕ) (i n : ℕ) (heads nexts : List ℕ) : Type 0 where
   pub first : (s : ℕ) → s < length heads → LeastFrom key i n s (get_or heads s 0)
   pub next : (k : ℕ) → i ≤ k → k < n → LeastFrom key (suc k) n (key k) (get_or nexts k 0)
 
 module _ (key : ℕ → ℕ) (n : ℕ) (heads nexts : List ℕ) where
-  pub linked_none : ((s : ℕ) → s < length heads → get_or heads s 0 ≡ n) → LinkedFrom key n n heads nexts
-  linked_none filled = record {
-    first = λ s h. subst (LeastFrom key n n s) (sym (filled s h)) none;
+  -- each head is n
+  pub linked_none : (m : ℕ) → heads ≡ replicate m n → LinkedFrom key n n heads nexts
+  linked_none m filled = record {
+    first = λ s h.
+        let below : s < m = omega (arith, ap (λ (l : List ℕ). length l) filled ∙ length-replicate m n) in
+        subst (LeastFrom key n n s) (sym (ap (λ (l : List ℕ). get_or l s 0) filled ∙ get_or-replicate m s n 0 below)) none;
     next = λ k l h. absurd (omega arith);
   }
     where
@@ -82,23 +81,24 @@ module _ (key : ℕ → ℕ) (n : ℕ) (heads nexts : List ℕ) where
     linked_more slot there =
         record { first = λ s l. firsts_more s (subst (λ (m : ℕ). s < m) (length-set heads (key i) i) l); next = nexts_more slot there }
 
-  -- the same, as the code has it
-  pub linked_row : (i slot word : ℕ) → 0 < i → i ≤ n → slot ≡ key (i - 1) → word ≡ i - 1 → slot < length heads → n ≤ length nexts
-      → LinkedFrom key i n heads nexts → LinkedFrom key (i - 1) n (set heads slot word) (set nexts (i - 1) (get_or heads slot 0))
-  linked_row i slot word some few es ew inside there from =
+  -- the same, as the code has it: row i - 1 is entered into its list
+  pub linked_row : (i slot : ℕ) → 0 < i → i ≤ n → slot ≡ key (i - 1) → slot < length heads → n ≤ length nexts
+      → (next : ℕ) (heads' nexts' : List ℕ) → (next ≡ get_or heads slot 0) × (heads' ≡ set heads slot (i - 1)) × (nexts' ≡ set nexts (i - 1) next)
+      → LinkedFrom key i n heads nexts → LinkedFrom key (i - 1) n heads' nexts'
+  linked_row i slot some few es inside there next heads' nexts' entered from =
       let back : i ≡ suc (i - 1) = omega arith in
       let h : i - 1 < n = omega arith in
       let at : key (i - 1) < length heads = subst (λ (k : ℕ). k < length heads) es inside in
-      rw (es, ew) (linked_more (i - 1) h (subst (λ (k : ℕ). LinkedFrom key k n heads nexts) back from) at (omega arith))
+      rw (entered.1, entered.2, entered.0, es) (linked_more (i - 1) h (subst (λ (k : ℕ). LinkedFrom key k n heads nexts) back from) at (omega arith))
 
 -- whether a row ends no later than row `next` starts, where there is such a row
 module _ (table : List ℕ) (n : ℕ) (row : Span) (next : ℕ) where
   pub followed_last : n ≤ next → Verdict (next < n → row.end.0 ≤ (span_at table next).start.0) true
   followed_last h = holds (λ l. absurd (omega arith))
 
-  pub followed_tells : next < n → (other : Span) → other ≡ span_at table next
-      → Verdict (next < n → row.end.0 ≤ (span_at table next).start.0) (leb row.end.0 other.start.0)
-  followed_tells h other e = rw e (restated (λ l _. l) (λ f. f h) (tells_le row.end.0 (span_at table next).start.0))
+  pub followed_tells : next < n → (other : Span) → other ≡ span_at table next → (b : Bool) → b ≡ leb row.end.0 other.start.0
+      → Verdict (next < n → row.end.0 ≤ (span_at table next).start.0) b
+  followed_tells h other e b told = rw (told, e) (restated (λ l _. l) (λ f. f h) (tells_le row.end.0 (span_at table next).start.0))
 
 unfoldable pub OrderedFrom : List ℕ → ℕ → List ℕ → ℕ → Type 0
 unfolding Followed
@@ -114,34 +114,39 @@ module _ (table : List ℕ) (n : ℕ) (nexts : List ℕ) where
   ordered_all b told = restated (λ from k h. from k (omega arith) h) (λ order k l h. order k h) told
 
   -- row i - 1, which is `row`, gets its next row, and b tells whether it is followed in order
-  module _ (i : ℕ) (some : 0 < i) (few : i ≤ n) (there : n ≤ length nexts) (row : Span) (word next : ℕ) (b : Bool)
-      (er : row ≡ span_at table (i - 1)) (en : next ≡ word) (told : Verdict (next < n → row.end.0 ≤ (span_at table next).start.0) b) where
-    -- its next row is the word that is written
-    row_tells : Verdict (Followed table n (set nexts (i - 1) word) (i - 1)) b
+  module _ (i : ℕ) (some : 0 < i) (few : i ≤ n) (there : n ≤ length nexts) (row : Span) (next : ℕ) (a b : Bool)
+      (er : row ≡ span_at table (i - 1)) (told : Verdict (next < n → row.end.0 ≤ (span_at table next).start.0) b)
+      (nexts' : List ℕ) (en : nexts' ≡ set nexts (i - 1) next) where
+    -- its next row is the one that is written
+    row_tells : Verdict (Followed table n nexts' (i - 1)) b
     unfolding Followed
     row_tells =
-        let at : get_or (set nexts (i - 1) word) (i - 1) 0 ≡ next = get_or-set_same nexts (i - 1) word 0 (omega arith) ∙ sym en in
+        let at : get_or nexts' (i - 1) 0 ≡ next = ap (λ (l : List ℕ). get_or l (i - 1) 0) en ∙ get_or-set_same nexts (i - 1) next 0 (omega arith) in
         rw at (rw er at told)
 
     -- a later row keeps its next row
-    later_same : (k : ℕ) → i ≤ k → get_or (set nexts (i - 1) word) k 0 ≡ get_or nexts k 0
-    later_same k l = get_or-set_other nexts (i - 1) k word 0 (λ e. omega arith)
+    later_same : (k : ℕ) → i ≤ k → get_or nexts' k 0 ≡ get_or nexts k 0
+    later_same k l = ap (λ (l : List ℕ). get_or l k 0) en ∙ get_or-set_other nexts (i - 1) k next 0 (λ e. omega arith)
 
-    pub ordered_stops : b ≡ false → Verdict (OrderedFrom table n (set nexts (i - 1) word) (i - 1)) false
-    unfolding OrderedFrom
-    ordered_stops e = fails (λ from. false_fails row_tells e (from (i - 1) (omega arith) (omega arith)))
-
-    pub ordered_stays : (a : Bool) → b ≡ true → Verdict (OrderedFrom table n nexts i) a
-        → Verdict (OrderedFrom table n (set nexts (i - 1) word) (i - 1)) a
+    ordered_row : Verdict (OrderedFrom table n nexts i) a → Verdict (OrderedFrom table n nexts' (i - 1)) (a && b)
     unfolding OrderedFrom Followed
-    ordered_stays a e so_far = restated more (λ from k l h. rw (sym (later_same k l)) (from k (omega arith) h)) so_far
+    ordered_row so_far = restated more fewer (both so_far row_tells)
       where
-        more : OrderedFrom table n nexts i → OrderedFrom table n (set nexts (i - 1) word) (i - 1)
+        more : OrderedFrom table n nexts i × Followed table n nexts' (i - 1) → OrderedFrom table n nexts' (i - 1)
         more from k l h =
             elim (ℕ_discrete (i - 1) k) [
-              | yes d ↦ subst (Followed table n (set nexts (i - 1) word)) d (true_holds row_tells e)
-              | no d ↦ let after : i ≤ k = omega arith in rw (later_same k after) (from k after h)
+              | yes d ↦ subst (Followed table n nexts') d from.1
+              | no d ↦ let after : i ≤ k = omega arith in rw (later_same k after) (from.0 k after h)
             ]
+
+        fewer : OrderedFrom table n nexts' (i - 1) → OrderedFrom table n nexts i × Followed table n nexts' (i - 1)
+        fewer from = (λ k l h. rw (sym (later_same k l)) (from k (omega arith) h), from (i - 1) (omega arith) (omega arith))
+
+    pub ordered_stays : b ≡ true → Verdict (OrderedFrom table n nexts i) a → Verdict (OrderedFrom table n nexts' (i - 1)) a
+    ordered_stays e so_far = subst (Verdict (OrderedFrom table n nexts' (i - 1))) (ap (λ (v : Bool). a && v) e ∙ and-true a) (ordered_row so_far)
+
+    pub ordered_stops : b ≡ false → Verdict (OrderedFrom table n nexts i) a → Verdict (OrderedFrom table n nexts' (i - 1)) false
+    ordered_stops e so_far = subst (Verdict (OrderedFrom table n nexts' (i - 1))) (ap (λ (v : Bool). a && v) e ∙ and-false a) (ordered_row so_far)
 
 -- the slot that is found for a row is that row's
 pub slot_found : (table : List ℕ) (k : ℕ) (s : Span) (slot : ℕ) → s ≡ span_at table k → slot ≡ pair_slot s → slot ≡ slot_at table k

@@ -5,8 +5,8 @@ ghost use Rattle.plan.specs.Tables.{words, contact_at};
 ghost use Rattle.plan_lists.specs.Lists.{Linked};
 ghost use Rattle.plan_lists.specs.Leaving.{from_at, LinkableFrom};
 
-use crate::linking::{fill, narrow, wide};
-use plan::contact_row;
+use crate::linking::enter;
+use plan::{Contact, Row};
 use units::NodeNo;
 
 // The node that contact k is from, counted from 0.
@@ -14,7 +14,7 @@ fn leaves(contacts: &[u64], k: usize) -> usize
     requires { (k * words + words ≤ length contacts.now) × IsNode (contact_at contacts.now k).from }
     ensures { (result ≡ from_at contacts.now k) × (result < most_nodes) }
 {
-    (contact_row(contacts, k).from.0 - 1) as usize
+    (Contact::read(contacts, k).from.0 - 1) as usize
 }
 
 // Links the first n contacts: `heads` has the first contact of each node, and `nexts` for each contact
@@ -23,13 +23,9 @@ pub fn link_from(contacts: &[u64], n: usize, heads: &mut [u16], nexts: &mut [u16
     requires { LinkableFrom contacts.now n heads.old nexts.old }
     ensures { Linked (from_at contacts.now) n heads.new nexts.new × (length heads.new ≡ length heads.old) × (length nexts.new ≡ length nexts.old) }
 {
-    fill(heads, narrow(n));
-    let mut i = n;
-    while 0 < i {
-        i -= 1;
-        let from = leaves(contacts, i);
-        nexts[i] = heads[from];
-        heads[from] = narrow(i);
+    heads.fill(n as u16);
+    for i in (0..n).rev() {
+        enter(heads, nexts, leaves(contacts, i), i);
     }
 }
 
@@ -39,5 +35,5 @@ pub fn first_from(heads: &[u16], node: NodeNo) -> usize
     ensures { result ≡ get_or heads.now (node.0 - 1) 0 }
 {
     let at = (node.0 - 1) as usize;
-    wide(heads[at])
+    usize::from(heads[at])
 }

@@ -1,5 +1,5 @@
 // The rows linked, from the last to the first, the first row of a slot and the next row of a row.
-ghost use Rattle.std.specs.Prelude.{◌≡◌, ℕ, ◌*◌, ◌≤◌, ◌<◌, length, get_or};
+ghost use Rattle.std.specs.Prelude.{◌≡◌, ◌*◌, ◌≤◌, ◌<◌, length, get_or, set};
 ghost use Rattle.plan.specs.Tables.{words, span_at};
 ghost use Rattle.plan.specs.Verdict.{Verdict};
 ghost use Rattle.plan_lists.specs.Lists.{Linked, pair_slot, slot_at, InOrder};
@@ -17,38 +17,12 @@ pub const MOST_ROWS: usize = 512;
 // word by word and not byte by byte.
 pub const BLANK: u16 = 1;
 
-// A row in 16 bits.
-pub fn narrow(row: usize) -> u16
-    requires { row < 65_536 }
-    ensures { result ≡ row }
-{
-    row as u16
-}
-
-// A row of 16 bits as an index.
-pub fn wide(row: u16) -> usize
-    ensures { result ≡ row }
-{
-    row as usize
-}
-
 // The slot of the pair of nodes.
 fn slot_of(s: Span) -> usize
     requires { IsPair s }
     ensures { (result ≡ pair_slot s) × (result < slots) }
 {
     ((s.one.0 - 1) * 24 + (s.other.0 - 1)) as usize % SLOTS
-}
-
-// Sets each word to that one.
-pub fn fill(heads: &mut [u16], word: u16)
-    ensures { (length heads.new ≡ length heads.old) × ((s : ℕ) → s < length heads.old → get_or heads.new s 0 ≡ word) }
-{
-    let mut s = 0;
-    while s < heads.len() {
-        heads[s] = word;
-        s += 1;
-    }
 }
 
 // Whether the row ends no later than row `next` starts; the last one of its slot does.
@@ -59,7 +33,19 @@ fn is_followed(table: &[u64], n: usize, row: Span, next: usize) -> bool
     if n <= next {
         return true;
     }
-    row.end.0 <= span_row(table, next).start.0
+    row.end <= span_row(table, next).start
+}
+
+// Row i becomes the first of its slot, or of its node, and the one that was stands behind it. Answers
+// that one.
+pub fn enter(heads: &mut [u16], nexts: &mut [u16], slot: usize, i: usize) -> usize
+    requires { (slot < length heads.old) × (i < length nexts.old) × (i < 65_536) }
+    ensures { (result ≡ get_or heads.old slot 0) × (heads.new ≡ set heads.old slot i) × (nexts.new ≡ set nexts.old i result) }
+{
+    let next = heads[slot];
+    nexts[i] = next;
+    heads[slot] = i as u16;
+    usize::from(next)
 }
 
 // Links the first n rows of a table: `heads` has the first row of each slot, and `nexts` for each row
@@ -69,17 +55,13 @@ pub fn link(table: &[u64], n: usize, heads: &mut [u16], nexts: &mut [u16]) -> bo
     requires { Linkable table.now n heads.old nexts.old }
     ensures { Linked (slot_at table.now) n heads.new nexts.new × (length heads.new ≡ length heads.old) × (length nexts.new ≡ length nexts.old) × Verdict (InOrder table.now n nexts.new) result }
 {
-    fill(heads, narrow(n));
+    heads.fill(n as u16);
     let mut ordered = true;
-    let mut i = n;
-    while 0 < i {
-        i -= 1;
+    for i in (0..n).rev() {
         let row = span_row(table, i);
-        let slot = slot_of(row);
-        let next = heads[slot];
-        nexts[i] = next;
-        heads[slot] = narrow(i);
-        if !is_followed(table, n, row, wide(next)) {
+        let next = enter(heads, nexts, slot_of(row), i);
+        // As `ordered &=` it would take three instructions more a row.
+        if !is_followed(table, n, row, next) {
             ordered = false;
         }
     }
@@ -91,7 +73,7 @@ pub fn head_of(heads: &[u16], s: Span) -> usize
     requires { IsPair s × (length heads.now ≡ slots) }
     ensures { result ≡ get_or heads.now (pair_slot s) 0 }
 {
-    wide(heads[slot_of(s)])
+    usize::from(heads[slot_of(s)])
 }
 
 // The row behind row i in its list.
@@ -99,5 +81,5 @@ pub fn next_of(nexts: &[u16], i: usize) -> usize
     requires { i < length nexts.now }
     ensures { result ≡ get_or nexts.now i 0 }
 {
-    wide(nexts[i])
+    usize::from(nexts[i])
 }

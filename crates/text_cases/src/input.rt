@@ -5,26 +5,11 @@ ghost use Rattle.std.specs.Counts.{IsPrefixLen};
 use crate::one::judge;
 use std::io::Read;
 
-fn wide(b: u8) -> usize
-    ensures { result ≤ 255 }
-{
-    b as usize
-}
-
-// The length that four bytes say, the highest first.
-fn length_of(head: [u8; 4]) -> usize {
-    let first = wide(head[0]) * 16_777_216 + wide(head[1]) * 65_536;
-    first + wide(head[2]) * 256 + wide(head[3])
-}
-
 // Reads into the part: how many bytes it put at its start. A read that fails counts as the end.
 fn read_some(from: &mut impl Read, part: &mut [u8]) -> usize
     ensures { result ≤ length part.new }
 {
-    match from.read(part) {
-        Ok(n) => n,
-        Err(_) => 0,
-    }
+    from.read(part).unwrap_or(0)
 }
 
 // Reads until `buf` is full or the reader is at its end: how many bytes it put at the start of `buf`.
@@ -48,13 +33,13 @@ fn fill(rt: &impl Print, from: &mut impl Read, text: &mut [u8]) {
     judge(rt, text);
 }
 
-// The next text read and judged; false where there is none.
+// The next text read and judged; false where there is none. Its length stands in four bytes before it, the highest first.
 fn next(rt: &impl Print, from: &mut impl Read, text: &mut [u8]) -> bool {
     let mut head = [0u8; 4];
     if read_full(from, &mut head) < 4 {
         return false;
     }
-    let n = length_of(head);
+    let n = u32::from_be_bytes(head) as usize;
     if text.len() < n {
         return false;
     }
@@ -65,11 +50,9 @@ fn next(rt: &impl Print, from: &mut impl Read, text: &mut [u8]) -> bool {
 // Every text, 4,096 at the most.
 pub fn all(rt: &(impl Print + Input), text: &mut [u8]) {
     let mut from = rt.reader();
-    let mut read: usize = 0;
-    while read < 4096 {
+    for _ in 0..4096 {
         if !next(rt, &mut from, text) {
             return;
         }
-        read += 1;
     }
 }

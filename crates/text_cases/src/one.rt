@@ -1,6 +1,6 @@
 // One text: what `read` answers, whether the lent words after the rows stayed, and whether `write` gives
 // the bytes back.
-use text::{PlanRead, Written};
+use text::Counts;
 use text_read::read;
 use text_write::write;
 use units::Refusal;
@@ -13,29 +13,16 @@ fn is_kept(table: &[u64], n: usize) -> bool {
     if 512 < n {
         return false;
     }
-    let mut i = n * 5;
-    while i < table.len() {
-        if table[i] != BLANK {
-            return false;
-        }
-        i += 1;
-    }
-    true
+    table.iter().skip(n * 5).all(|word| *word == BLANK)
 }
 
 // Prints the bytes. A write that fails is dropped.
 fn print(rt: &impl Print, bytes: &[u8]) {
-    match rt.write_all(bytes) {
-        Ok(()) => {}
-        Err(_) => {}
-    }
+    let _ = rt.write_all(bytes);
 }
 
 fn field(rt: &impl Print, n: u64) {
-    match print!(rt; "\t{n}") {
-        Ok(()) => {}
-        Err(_) => {}
-    }
+    let _ = print!(rt; "\t{n}");
 }
 
 // The line's end, after a word where lent memory changed that must not.
@@ -57,60 +44,66 @@ fn back_into(
     rt: &impl Print,
     text: &[u8],
     contacts: &[u64],
-    m: usize,
     ranges: &[u64],
-    n: usize,
+    counts: Counts,
     out: &mut [u8],
 ) {
-    match write(contacts, m, ranges, n, out) {
-        Written::Length(k) => {
-            if k <= out.len() {
-                if &out[..k] == text {
-                    field(rt, k as u64);
-                }
+    match write(contacts, counts.contacts, ranges, counts.ranges, out) {
+        Ok(k) => {
+            if out.get(..k).is_some_and(|bytes| bytes == text) {
+                field(rt, k as u64);
             }
         }
-        Written::Refused(why) => refused(rt, why),
+        Err(why) => refused(rt, why),
     }
 }
 
-fn back(rt: &impl Print, text: &[u8], contacts: &[u64], m: usize, ranges: &[u64], n: usize) {
+fn back(rt: &impl Print, text: &[u8], contacts: &[u64], ranges: &[u64], counts: Counts) {
     let mut out = [0u8; 46_088];
-    back_into(rt, text, contacts, m, ranges, n, &mut out);
+    back_into(rt, text, contacts, ranges, counts, &mut out);
 }
 
 // The two counts, or the refusal.
-pub fn counts(rt: &impl Print, answer: PlanRead) {
+pub fn counts(rt: &impl Print, answer: Result<Counts, Refusal>) {
     match answer {
-        PlanRead::Rows(m, n) => {
+        Ok(counts) => {
             print(rt, b"plan");
-            field(rt, m as u64);
-            field(rt, n as u64);
+            field(rt, counts.contacts as u64);
+            field(rt, counts.ranges as u64);
         }
-        PlanRead::Refused(why) => refused(rt, why),
+        Err(why) => refused(rt, why),
     }
 }
 
 // The length, or the refusal.
-pub fn length(rt: &impl Print, answer: Written) {
+pub fn length(rt: &impl Print, answer: Result<usize, Refusal>) {
     match answer {
-        Written::Length(k) => {
+        Ok(k) => {
             print(rt, b"written");
             field(rt, k as u64);
         }
-        Written::Refused(why) => refused(rt, why),
+        Err(why) => refused(rt, why),
     }
 }
 
-fn show(rt: &impl Print, text: &[u8], answer: PlanRead, contacts: &[u64], ranges: &[u64]) {
+fn show(
+    rt: &impl Print,
+    text: &[u8],
+    answer: Result<Counts, Refusal>,
+    contacts: &[u64],
+    ranges: &[u64],
+) {
     counts(rt, answer);
-    match answer {
-        PlanRead::Rows(m, n) => {
-            back(rt, text, contacts, m, ranges, n);
-            end(rt, is_kept(contacts, m) & is_kept(ranges, n));
-        }
-        PlanRead::Refused(_) => end(rt, is_kept(contacts, 0) & is_kept(ranges, 0)),
+    let mut filled = Counts {
+        contacts: 0,
+        ranges: 0,
+    };
+    if let Ok(read) = answer {
+        back(rt, text, contacts, ranges, read);
+        filled = read;
     }
+    let kept = is_kept(contacts, filled.contacts) & is_kept(ranges, filled.ranges);
+    end(rt, kept);
 }
 
 pub fn judge(rt: &impl Print, text: &[u8]) {

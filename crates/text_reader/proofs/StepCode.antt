@@ -3,7 +3,7 @@
 --     line_taken, line_refused                 one line taken, and one refused: to which outcome the rest leads
 --     all_read                                 the outcome when no line is left
 -- Assumes nothing.
-use Rattle.std.proofs.Common.{Bool, true, false, ◌&&◌, ◌≡◌, ℕ, suc, ◌+◌, ◌-◌, ◌≤◌, ◌<◌, List, [], ◌∷◌, length, take, drop, refl, sym, ap, ◌∙◌, arith, add-one, length-drop, Some, None, Ok, Err}
+use Rattle.std.proofs.Common.{true, false, ◌≡◌, ℕ, suc, ◌+◌, ◌-◌, ◌≤◌, ◌<◌, List, [], ◌∷◌, length, take, drop, refl, sym, ap, ◌∙◌, arith, add-one, length-drop, None, Ok, Err}
 use mathlib.Core.Bool.{and-false}
 use mathlib.Core.Path.{ap₂}
 use native.Mathlib.Decide.{dec_lt}

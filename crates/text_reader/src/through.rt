@@ -13,11 +13,7 @@ use text_rows::take_said;
 use units::Refusal;
 
 // The lines behind the header, one by one, into the tables.
-pub fn read_lines(
-    text: &[u8],
-    contacts: &mut [u64],
-    ranges: &mut [u64],
-) -> Result<Counts, Refusal>
+pub fn read_lines(text: &[u8], contacts: &mut [u64], ranges: &mut [u64]) -> Result<Counts, Refusal>
     requires { (most_contacts * words ≤ length contacts.old) × (most_ranges * words ≤ length ranges.old) × (length header ≤ length text.now) }
     ensures { Gives (read_lines 2 no_rows (lines_of (drop (length header) text.now))) contacts.new ranges.new result }
 {

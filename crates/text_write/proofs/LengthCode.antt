@@ -1,25 +1,23 @@
 -- The length of a text, piece by piece.
 --     digits_goes, digits_ends, digits_few      how many digits a number has
---     field-few, line-few                       a field has at most 21 bytes
+--     row_few                                   the fields of a row are few bytes
 -- Assumes nothing.
 use mathlib.Core.List.{List, [], ◌∷◌, ◌++◌, map}
 use mathlib.Core.Path.{◌≡◌, sym, ap, ap₂, ◌∙◌}
 use Prim.Native.Nat.{ℕ, suc, ◌+◌, ◌-◌, ◌*◌, ◌/◌, ◌%◌, ◌^◌, ◌≤◌, ◌<◌}
-use native.Mathlib.Nat.{sub-zero}
 use native.Mathlib.Omega.{arith}
-use lib.ListN.{length, get_or, length-append}
+use lib.ListN.{length, get_or, take, drop, length-append}
 use Rattle.plan.specs.Plan.{Plan}
 use Rattle.plan.specs.Tables.{words, contact_at, range_at, rows_from, plan_of}
-use Rattle.plan.proofs.RowList.{map_rows}
 use Rattle.text.specs.Calls.{text_of}
 use Rattle.text.specs.Digits.{decimal}
 use Rattle.text.specs.Lines.{glue}
 use Rattle.text.specs.Rows.{header, contact_word, range_word, line_of, contact_line, range_line, plan_lines, render}
 use Rattle.text.proofs.Digits.{decimal_large, decimal_small, decimal_number, decimal_short}
 use Rattle.text.proofs.Lines.{glue_append}
-use Rattle.plan.proofs.RowList.{rows_agree}
+use Rattle.plan.proofs.RowList.{length_rows, map_rows, rows_agree}
 use Rattle.text_write.specs.Model.{words_from, field_bytes, line_at, line_bytes, row_bytes}
-use Rattle.text_write.proofs.PutCode.{fields_more, fields_done, line_parts, rows_left, rows_none}
+use Rattle.text_write.proofs.PutCode.{fields_more, fields_done, line_parts, row_taken, rows_left, rows_none}
 
 -- ---- digits
 
@@ -37,31 +35,36 @@ digits_counted n v k h e = omega (arith, digits_few n h, (decimal_number v).not_
 
 -- ---- fields and lines
 
-module _ (t : List ℕ) (i end sum d : ℕ) where
-  pub sum_field : i < end → d ≡ length (decimal (get_or t i 0)) → (all : ℕ) → all ≡ sum + length (field_bytes t i (end - i))
-      → all ≡ (sum + (1 + d)) + length (field_bytes t (i + 1) (end - (i + 1)))
-  sum_field h e all s = omega (arith, s, ap length (fields_more t i end h), length-append (decimal (get_or t i 0)) (field_bytes t (i + 1) (end - (i + 1))))
+module _ (xs : List ℕ) (i sum d : ℕ) where
+  pub sum_field : i < length xs → d ≡ length (decimal (get_or xs i 0)) → (all : ℕ) → all ≡ sum + length (field_bytes (drop i xs))
+      → all ≡ (sum + (1 + d)) + length (field_bytes (drop (i + 1) xs))
+  sum_field h e all s = omega (arith, s, ap length (fields_more xs i h), length-append (decimal (get_or xs i 0)) (field_bytes (drop (i + 1) xs)))
 
-  pub sum_fields_end : end ≤ i → (all : ℕ) → all ≡ sum + length (field_bytes t i (end - i)) → sum ≡ all
-  sum_fields_end h all s = omega (arith, s, ap length (fields_done t i end h))
+  pub sum_fields_end : length xs ≤ i → (all : ℕ) → all ≡ sum + length (field_bytes (drop i xs)) → sum ≡ all
+  sum_fields_end h all s = omega (arith, s, ap length (fields_done xs i h))
 
 module _ (word t : List ℕ) (k n sum d : ℕ) where
-  pub sum_line : k < n → d ≡ length (field_bytes t (k * words) words) → (all : ℕ) → all ≡ sum + length (row_bytes word t k (n - k))
-      → all ≡ (sum + (length word + d + 1)) + length (row_bytes word t (k + 1) (n - (k + 1)))
-  sum_line h e all s =
+  pub sum_line : (row : List ℕ) → row ≡ words_from t (k * words) words → k < n → d ≡ length (field_bytes row) → (all : ℕ)
+      → all ≡ sum + length (row_bytes word t k (n - k)) → all ≡ (sum + (length word + d + 1)) + length (row_bytes word t (k + 1) (n - (k + 1)))
+  sum_line row is h e all s =
       omega (
         arith,
         s,
         e,
-        ap length (rows_left t word k n h),
-        length-append (line_bytes word t k) (row_bytes word t (k + 1) (n - (k + 1))),
-        ap length (line_parts t word k),
-        length-append word (field_bytes t (k * words) words ++ (10 ∷ [])),
-        length-append (field_bytes t (k * words) words) (10 ∷ []),
+        ap length (rows_left word t k n h),
+        length-append (line_bytes word (words_from t (k * words) words)) (row_bytes word t (k + 1) (n - (k + 1))),
+        ap (λ (ws : List ℕ). length (line_bytes word ws)) is,
+        ap length (line_parts word row),
+        length-append word (field_bytes row ++ (10 ∷ [])),
+        length-append (field_bytes row) (10 ∷ []),
       )
 
   pub sum_lines_end : n ≤ k → (all : ℕ) → all ≡ sum + length (row_bytes word t k (n - k)) → sum ≡ all
-  sum_lines_end h all s = omega (arith, s, ap length (rows_none t word k n h))
+  sum_lines_end h all s = omega (arith, s, ap length (rows_none word t k n h))
+
+-- the fields of a row are few bytes
+pub row_few : (t : List ℕ) (k d : ℕ) → k * words + words ≤ length t → d ≤ length (take ((k + 1) * words - k * words) (drop (k * words) t)) * 21 → d ≤ 105
+row_few t k d h few = omega (arith, few, ap length (row_taken t k h) ∙ length_rows (λ j. get_or t j 0) (k * words) words)
 
 -- ---- the whole text
 
@@ -109,9 +112,3 @@ module _ (contacts : List ℕ) (m : ℕ) (ranges : List ℕ) (n : ℕ) where
         length-append header (row_bytes contact_word contacts 0 m ++ row_bytes range_word ranges 0 n),
         length-append (row_bytes contact_word contacts 0 m) (row_bytes range_word ranges 0 n),
       )
-
-pub fields_all : (t : List ℕ) (from count end : ℕ) → end ≡ from + count → length (field_bytes t from count) ≡ 0 + length (field_bytes t from (end - from))
-fields_all t from count end e = let n : count ≡ end - from = omega arith in ap (λ (k : ℕ). length (field_bytes t from k)) n ∙ omega arith
-
-pub rows_every : (word t : List ℕ) (n : ℕ) → length (row_bytes word t 0 n) ≡ 0 + length (row_bytes word t 0 (n - 0))
-rows_every word t n = rw (sub-zero n) (omega arith)

@@ -7,19 +7,19 @@
 -- Assumes nothing.
 use mathlib.Core.List.{List, [], ◌∷◌, ◌++◌, append_assoc}
 use mathlib.Core.Path.{◌≡◌, refl, sym, ap, ap₂, ◌∙◌, subst}
-use Prim.Native.Nat.{ℕ, ◌+◌, ◌-◌, ◌*◌, ◌/◌, ◌%◌, ◌≤◌, ◌<◌}
+use Prim.Native.Nat.{ℕ, zero, suc, ◌+◌, ◌-◌, ◌*◌, ◌/◌, ◌%◌, ◌≤◌, ◌<◌}
 use native.Mathlib.Nat.{zero-add}
 use native.Mathlib.Numerals.{add-one}
 use native.Mathlib.Omega.{arith}
-use lib.ListN.{length, get_or, take, drop, set, length-append, length-set, length-take, take-append-drop, drop_of_length-le}
+use lib.ListN.{length, get_or, take, drop, set, length-append, length-take, take-append-drop, drop_of_length-le}
 use lib.Seq.{set_split, take_at, drop_at, drop-cons, drop-drop}
-use Rattle.plan.specs.Tables.{words}
+use Rattle.plan.specs.Tables.{words, rows_from}
 use Rattle.plan.proofs.RowList.{rows_more, rows_done}
 use Rattle.text.specs.Digits.{nought, decimal}
 use Rattle.text.specs.Lines.{tab, line_feed, glue_fields, glue_line, glue}
 use Rattle.text.specs.Rows.{line_of}
 use Rattle.text.proofs.Digits.{decimal_small, decimal_large}
-use Rattle.text_write.specs.Model.{Wrote, field_bytes, line_at, line_bytes, row_bytes}
+use Rattle.text_write.specs.Model.{Wrote, words_from, field_bytes, line_at, line_bytes, row_bytes}
 
 -- ---- one after the other
 
@@ -101,27 +101,38 @@ module _ {before : List ℕ} {at : ℕ} {all out : List ℕ} {p : ℕ} where
 pub bytes_left : (bs : List ℕ) (i : ℕ) → i < length bs → drop i bs ≡ (get_or bs i 0 ∷ []) ++ drop (i + 1) bs
 bytes_left bs i h = drop-cons bs i 0 h ∙ ap (λ (n : ℕ). get_or bs i 0 ∷ drop n bs) (sym (add-one i))
 
-module _ (t : List ℕ) where
-  pub fields_more : (i end : ℕ) → i < end → field_bytes t i (end - i) ≡ (tab ∷ decimal (get_or t i 0)) ++ field_bytes t (i + 1) (end - (i + 1))
-  unfolding field_bytes glue_fields
-  fields_more i end h = rw (rows_more (λ k. get_or t k 0) i end h)
+pub fields_more : (xs : List ℕ) (i : ℕ) → i < length xs → field_bytes (drop i xs) ≡ (tab ∷ decimal (get_or xs i 0)) ++ field_bytes (drop (i + 1) xs)
+unfolding field_bytes glue_fields
+fields_more xs i h = ap field_bytes (bytes_left xs i h)
 
-  pub fields_done : (i end : ℕ) → end ≤ i → field_bytes t i (end - i) ≡ []
-  unfolding field_bytes glue_fields
-  fields_done i end h = rw (rows_done (λ k. get_or t k 0) i end h)
+pub fields_done : (xs : List ℕ) (i : ℕ) → length xs ≤ i → field_bytes (drop i xs) ≡ []
+unfolding field_bytes glue_fields
+fields_done xs i h = ap field_bytes (drop_of_length-le xs h)
 
-  module _ (word : List ℕ) where
-    pub line_parts : (k : ℕ) → line_bytes word t k ≡ word ++ (field_bytes t (k * words) words ++ (line_feed ∷ []))
-    unfolding line_bytes line_of glue_line field_bytes
-    line_parts k = refl
+pub line_parts : (word row : List ℕ) → line_bytes word row ≡ word ++ (field_bytes row ++ (line_feed ∷ []))
+unfolding line_bytes line_of glue_line field_bytes
+line_parts word row = refl
 
-    pub rows_left : (k n : ℕ) → k < n → row_bytes word t k (n - k) ≡ line_bytes word t k ++ row_bytes word t (k + 1) (n - (k + 1))
-    unfolding row_bytes line_bytes glue
-    rows_left k n h = rw (rows_more (line_at word t) k n h)
+-- words that stand behind each other are the part of the table there
+words_taken : (t : List ℕ) (i n : ℕ) → i + n ≤ length t → take n (drop i t) ≡ words_from t i n
+unfolding rows_from
+words_taken t i zero h = refl
+words_taken t i (suc n) h = ap (take (suc n)) (drop-cons t i 0 (omega arith)) ∙ ap (λ (ws : List ℕ). get_or t i 0 ∷ ws) (words_taken t (suc i) n (omega arith))
 
-    pub rows_none : (k n : ℕ) → n ≤ k → row_bytes word t k (n - k) ≡ []
-    unfolding row_bytes glue
-    rows_none k n h = rw (rows_done (line_at word t) k n h)
+-- the words of row k, as the code takes them
+pub row_taken : (t : List ℕ) (k : ℕ) → k * words + words ≤ length t → take ((k + 1) * words - k * words) (drop (k * words) t) ≡ words_from t (k * words) words
+row_taken t k h =
+    let five : (k + 1) * words - k * words ≡ words = omega arith in
+    ap (λ (n : ℕ). take n (drop (k * words) t)) five ∙ words_taken t (k * words) words h
+
+module _ (word t : List ℕ) where
+  pub rows_left : (k n : ℕ) → k < n → row_bytes word t k (n - k) ≡ line_bytes word (words_from t (k * words) words) ++ row_bytes word t (k + 1) (n - (k + 1))
+  unfolding row_bytes line_bytes glue
+  rows_left k n h = rw (rows_more (line_at word t) k n h)
+
+  pub rows_none : (k n : ℕ) → n ≤ k → row_bytes word t k (n - k) ≡ []
+  unfolding row_bytes glue
+  rows_none k n h = rw (rows_done (line_at word t) k n h)
 
 -- ---- a number
 
@@ -154,61 +165,37 @@ module _ (out : List ℕ) (at n : ℕ) where
 
 -- ---- the loops
 
-pub bytes_goes : (before : List ℕ) (at : ℕ) (bytes out : List ℕ) (i : ℕ) → i < length bytes → Onward before at bytes out (at + i) (drop i bytes)
-    → Onward before at bytes (set out (at + i) (get_or bytes i 0)) (at + (i + 1)) (drop (i + 1) bytes)
-bytes_goes before at bytes out i h o =
-    let left = onward_as (drop i bytes) ((get_or bytes i 0 ∷ []) ++ drop (i + 1) bytes) (bytes_left bytes i h) o in
-    let room : at + i < length out = omega (arith, onward_room (get_or bytes i 0 ∷ []) (drop (i + 1) bytes) left) in
-    let next : at + i + 1 ≡ at + (i + 1) = omega arith in
-    onward_step (get_or bytes i 0 ∷ []) (drop (i + 1) bytes) (set out (at + i) (get_or bytes i 0)) (at + (i + 1)) left (length-set out (at + i) (get_or bytes i 0))
-    (subst (Wrote out (at + i) (get_or bytes i 0 ∷ []) (set out (at + i) (get_or bytes i 0))) next (wrote_byte out (at + i) (get_or bytes i 0) room))
+module _ (before : List ℕ) (at : ℕ) (all xs out : List ℕ) (p i : ℕ) where
+  field_first : i < length xs → Onward before at all out p (field_bytes (drop i xs))
+      → Onward before at all out p ((tab ∷ decimal (get_or xs i 0)) ++ field_bytes (drop (i + 1) xs))
+  field_first h o = onward_as (field_bytes (drop i xs)) ((tab ∷ decimal (get_or xs i 0)) ++ field_bytes (drop (i + 1) xs)) (fields_more xs i h) o
 
-pub bytes_end : (before : List ℕ) (at : ℕ) (bytes out : List ℕ) (i : ℕ) → length bytes ≤ i → Onward before at bytes out (at + i) (drop i bytes)
-    → Wrote before at bytes out (at + i)
-bytes_end before at bytes out i h o = onward_end (onward_as (drop i bytes) [] (drop_of_length-le bytes h) o)
+  pub field_room : i < length xs → Onward before at all out p (field_bytes (drop i xs)) → p + length (tab ∷ decimal (get_or xs i 0)) ≤ length out
+  field_room h o = onward_room (tab ∷ decimal (get_or xs i 0)) (field_bytes (drop (i + 1) xs)) (field_first h o)
 
-pub bytes_start : (out : List ℕ) (at : ℕ) (bytes : List ℕ) → at + length bytes ≤ length out → Onward out at bytes out (at + 0) (drop 0 bytes)
-bytes_start out at bytes h = let e : at ≡ at + 0 = omega arith in subst (λ (p : ℕ). Onward out at bytes out p bytes) e (onward_start out at bytes h)
+  pub field_goes : i < length xs → Onward before at all out p (field_bytes (drop i xs)) → (mid : List ℕ) (q : ℕ) → length mid ≡ length out
+      → Wrote out p (tab ∷ decimal (get_or xs i 0)) mid q → Onward before at all mid q (field_bytes (drop (i + 1) xs))
+  field_goes h o mid q l w = onward_step (tab ∷ decimal (get_or xs i 0)) (field_bytes (drop (i + 1) xs)) mid q (field_first h o) l w
 
-pub byte_room : (before : List ℕ) (at : ℕ) (bytes out : List ℕ) (i : ℕ) → i < length bytes → Onward before at bytes out (at + i) (drop i bytes)
-    → at + i < length out
-byte_room before at bytes out i h o =
-    omega (arith, onward_room (get_or bytes i 0 ∷ []) (drop (i + 1) bytes) (onward_as (drop i bytes) ((get_or bytes i 0 ∷ []) ++ drop (i + 1) bytes) (bytes_left bytes i h) o))
+  pub fields_end : length xs ≤ i → Onward before at all out p (field_bytes (drop i xs)) → Wrote before at all out p
+  fields_end h o = onward_end (onward_as (field_bytes (drop i xs)) [] (fields_done xs i h) o)
 
-module _ (before : List ℕ) (at : ℕ) (all t out : List ℕ) (p i end : ℕ) where
-  field_first : i < end → Onward before at all out p (field_bytes t i (end - i))
-      → Onward before at all out p ((tab ∷ decimal (get_or t i 0)) ++ field_bytes t (i + 1) (end - (i + 1)))
-  field_first h o = onward_as (field_bytes t i (end - i)) ((tab ∷ decimal (get_or t i 0)) ++ field_bytes t (i + 1) (end - (i + 1))) (fields_more t i end h) o
+module _ (before : List ℕ) (at : ℕ) (all word t out : List ℕ) (p k n : ℕ) (row : List ℕ) (is : row ≡ words_from t (k * words) words) where
+  line_first : k < n → Onward before at all out p (row_bytes word t k (n - k)) → Onward before at all out p (line_bytes word row ++ row_bytes word t (k + 1) (n - (k + 1)))
+  line_first h o =
+      onward_as (row_bytes word t k (n - k)) (line_bytes word row ++ row_bytes word t (k + 1) (n - (k + 1)))
+      (rows_left word t k n h ∙ ap (λ (ws : List ℕ). line_bytes word ws ++ row_bytes word t (k + 1) (n - (k + 1))) (sym is)) o
 
-  pub field_room : i < end → Onward before at all out p (field_bytes t i (end - i)) → p + length (tab ∷ decimal (get_or t i 0)) ≤ length out
-  field_room h o = onward_room (tab ∷ decimal (get_or t i 0)) (field_bytes t (i + 1) (end - (i + 1))) (field_first h o)
-
-  pub field_goes : i < end → Onward before at all out p (field_bytes t i (end - i)) → (mid : List ℕ) (q : ℕ) → length mid ≡ length out
-      → Wrote out p (tab ∷ decimal (get_or t i 0)) mid q → Onward before at all mid q (field_bytes t (i + 1) (end - (i + 1)))
-  field_goes h o mid q l w = onward_step (tab ∷ decimal (get_or t i 0)) (field_bytes t (i + 1) (end - (i + 1))) mid q (field_first h o) l w
-
-  pub fields_end : end ≤ i → Onward before at all out p (field_bytes t i (end - i)) → Wrote before at all out p
-  fields_end h o = onward_end (onward_as (field_bytes t i (end - i)) [] (fields_done t i end h) o)
-
-pub fields_start : (out : List ℕ) (at : ℕ) (t : List ℕ) (from count end : ℕ) → end ≡ from + count → at + length (field_bytes t from count) ≤ length out
-    → Onward out at (field_bytes t from count) out at (field_bytes t from (end - from))
-fields_start out at t from count end e room =
-    let n : count ≡ end - from = omega arith in
-    subst (λ (k : ℕ). Onward out at (field_bytes t from count) out at (field_bytes t from k)) n (onward_start out at (field_bytes t from count) room)
-
-module _ (before : List ℕ) (at : ℕ) (all word t out : List ℕ) (p k n : ℕ) where
-  line_first : k < n → Onward before at all out p (row_bytes word t k (n - k)) → Onward before at all out p (line_bytes word t k ++ row_bytes word t (k + 1) (n - (k + 1)))
-  line_first h o = onward_as (row_bytes word t k (n - k)) (line_bytes word t k ++ row_bytes word t (k + 1) (n - (k + 1))) (rows_left t word k n h) o
-
-  pub line_room : k < n → Onward before at all out p (row_bytes word t k (n - k)) → p + length (line_bytes word t k) ≤ length out
-  line_room h o = onward_room (line_bytes word t k) (row_bytes word t (k + 1) (n - (k + 1))) (line_first h o)
+  pub line_room : k < n → Onward before at all out p (row_bytes word t k (n - k)) → p + length (line_bytes word row) ≤ length out
+  line_room h o = onward_room (line_bytes word row) (row_bytes word t (k + 1) (n - (k + 1))) (line_first h o)
 
   pub line_goes : k < n → Onward before at all out p (row_bytes word t k (n - k)) → (mid : List ℕ) (q : ℕ) → length mid ≡ length out
-      → Wrote out p (line_bytes word t k) mid q → Onward before at all mid q (row_bytes word t (k + 1) (n - (k + 1)))
-  line_goes h o mid q l w = onward_step (line_bytes word t k) (row_bytes word t (k + 1) (n - (k + 1))) mid q (line_first h o) l w
+      → Wrote out p (line_bytes word row) mid q → Onward before at all mid q (row_bytes word t (k + 1) (n - (k + 1)))
+  line_goes h o mid q l w = onward_step (line_bytes word row) (row_bytes word t (k + 1) (n - (k + 1))) mid q (line_first h o) l w
 
-  pub lines_end : n ≤ k → Onward before at all out p (row_bytes word t k (n - k)) → Wrote before at all out p
-  lines_end h o = onward_end (onward_as (row_bytes word t k (n - k)) [] (rows_none t word k n h) o)
+pub lines_end : (before : List ℕ) (at : ℕ) (all word t out : List ℕ) (p k n : ℕ) → n ≤ k → Onward before at all out p (row_bytes word t k (n - k))
+    → Wrote before at all out p
+lines_end before at all word t out p k n h o = onward_end (onward_as (row_bytes word t k (n - k)) [] (rows_none word t k n h) o)
 
 pub lines_start : (out : List ℕ) (at : ℕ) (word t : List ℕ) (n : ℕ) → at + length (row_bytes word t 0 n) ≤ length out
     → Onward out at (row_bytes word t 0 n) out at (row_bytes word t 0 (n - 0))
@@ -218,27 +205,27 @@ lines_start out at word t n room =
 
 -- ---- a line
 
-module _ (out : List ℕ) (at : ℕ) (word t : List ℕ) (k : ℕ) (room : at + length (line_bytes word t k) ≤ length out) where
-  begun : Onward out at (line_bytes word t k) out at (word ++ (field_bytes t (k * words) words ++ (line_feed ∷ [])))
+module _ (out : List ℕ) (at : ℕ) (word row : List ℕ) (room : at + length (line_bytes word row) ≤ length out) where
+  begun : Onward out at (line_bytes word row) out at (word ++ (field_bytes row ++ (line_feed ∷ [])))
   begun =
-      onward_as (line_bytes word t k) (word ++ (field_bytes t (k * words) words ++ (line_feed ∷ []))) (line_parts t word k) (onward_start out at (line_bytes word t k) room)
+      onward_as (line_bytes word row) (word ++ (field_bytes row ++ (line_feed ∷ []))) (line_parts word row) (onward_start out at (line_bytes word row) room)
 
   pub line_word_room : at + length word ≤ length out
-  line_word_room = onward_room word (field_bytes t (k * words) words ++ (line_feed ∷ [])) begun
+  line_word_room = onward_room word (field_bytes row ++ (line_feed ∷ [])) begun
 
   module _ (mid : List ℕ) (p : ℕ) (l : length mid ≡ length out) (w : Wrote out at word mid p) where
-    worded : Onward out at (line_bytes word t k) mid p (field_bytes t (k * words) words ++ (line_feed ∷ []))
-    worded = onward_step word (field_bytes t (k * words) words ++ (line_feed ∷ [])) mid p begun l w
+    worded : Onward out at (line_bytes word row) mid p (field_bytes row ++ (line_feed ∷ []))
+    worded = onward_step word (field_bytes row ++ (line_feed ∷ [])) mid p begun l w
 
-    pub line_fields_room : p + length (field_bytes t (k * words) words) ≤ length mid
-    line_fields_room = onward_room (field_bytes t (k * words) words) (line_feed ∷ []) worded
+    pub line_fields_room : p + length (field_bytes row) ≤ length mid
+    line_fields_room = onward_room (field_bytes row) (line_feed ∷ []) worded
 
-    module _ (end : List ℕ) (q : ℕ) (m : length end ≡ length mid) (v : Wrote mid p (field_bytes t (k * words) words) end q) where
-      fielded : Onward out at (line_bytes word t k) end q (line_feed ∷ [])
-      fielded = onward_step (field_bytes t (k * words) words) (line_feed ∷ []) end q worded m v
+    module _ (end : List ℕ) (q : ℕ) (m : length end ≡ length mid) (v : Wrote mid p (field_bytes row) end q) where
+      fielded : Onward out at (line_bytes word row) end q (line_feed ∷ [])
+      fielded = onward_step (field_bytes row) (line_feed ∷ []) end q worded m v
 
       pub line_feed_room : q < length end
       line_feed_room = omega (arith, fielded.room)
 
-      pub line_whole : (last : List ℕ) (r : ℕ) → Wrote end q (line_feed ∷ []) last r → Wrote out at (line_bytes word t k) last r
+      pub line_whole : (last : List ℕ) (r : ℕ) → Wrote end q (line_feed ∷ []) last r → Wrote out at (line_bytes word row) last r
       line_whole last r u = fielded.completes last r u

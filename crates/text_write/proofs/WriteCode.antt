@@ -7,9 +7,9 @@ use mathlib.Core.Path.{◌≡◌, sym, subst}
 use Prim.Native.Nat.{ℕ, ◌+◌, ◌≤◌, ◌<◌}
 use native.Mathlib.Omega.{arith}
 use lib.ListN.{length}
+use Rattle.std.specs.Prelude.{Ok, Err}
 use Rattle.units.specs.declared.Refusal.TheVariants.{ShortOutput}
 use Rattle.plan.specs.Tables.{IsPlan}
-use Rattle.text.specs.declared.answer.Written.TheVariants.{Length, Refused as NotWritten}
 use Rattle.text.specs.Calls.{text_of, Writes, too_short, written}
 use Rattle.text.specs.Rows.{header, contact_word, range_word}
 use Rattle.text_write.specs.Model.{Wrote, row_bytes}
@@ -45,14 +45,14 @@ module _ (out contacts : List ℕ) (m : ℕ) (ranges : List ℕ) (n : ℕ) where
         plan_whole last r u = lined.completes last r u
 
   module _ (plan : IsPlan contacts m ranges n) (needed : ℕ) (e : needed ≡ length (text_of contacts m ranges n)) where
-    pub write_short : length out < needed → Writes contacts m ranges n out (NotWritten (ShortOutput needed)) out
+    pub write_short : length out < needed → Writes contacts m ranges n out (Err (ShortOutput needed)) out
     write_short h =
-        subst (λ (k : ℕ). Writes contacts m ranges n out (NotWritten (ShortOutput k)) out) (sym e)
+        subst (λ (k : ℕ). Writes contacts m ranges n out (Err (ShortOutput k)) out) (sym e)
         (too_short plan (subst (λ (k : ℕ). length out < k) e h))
 
     pub write_done : needed ≤ length out → (out' : List ℕ) (r : ℕ) → Wrote out 0 (text_of contacts m ranges n) out' r
-        → Writes contacts m ranges n out (Length needed) out'
+        → Writes contacts m ranges n out (Ok needed) out'
     write_done h out' r w =
         let text = text_of contacts m ranges n in
-        subst (λ (k : ℕ). Writes contacts m ranges n out (Length k) out') (sym e)
-        (subst (Writes contacts m ranges n out (Length (length text))) (sym (wrote_front w)) (written plan (subst (λ (k : ℕ). k ≤ length out) e h)))
+        subst (λ (k : ℕ). Writes contacts m ranges n out (Ok k) out') (sym e)
+        (subst (Writes contacts m ranges n out (Ok (length text))) (sym (wrote_front w)) (written plan (subst (λ (k : ℕ). k ≤ length out) e h)))

@@ -1,7 +1,8 @@
 -- What the functions inside `write` say, which `desk` cites too. A reader of the promises may skip it.
 --     Wrote         bytes stand at a place, and all around them is as it was
---     field_bytes    the fields that words of a table make, from a place on
---     line_bytes     the line of a row
+--     words_from     words of a table, from a place on
+--     field_bytes    the fields that numbers make
+--     line_bytes     the line of a row's words
 --     row_bytes      the lines of rows, from row k on
 -- Assumes nothing.
 use Rattle.std.specs.Prelude.{◌≡◌, List, ◌++◌, map, ℕ, ◌+◌, ◌*◌, length, get_or, take, drop}
@@ -18,14 +19,14 @@ pub record Wrote (before : List ℕ) (at : ℕ) (bytes after : List ℕ) (next :
 abbrev pub words_from : List ℕ → ℕ → ℕ → List ℕ
 words_from t i n = rows_from (λ k. get_or t k 0) i n
 
-unfoldable pub field_bytes : List ℕ → ℕ → ℕ → List ℕ
-field_bytes t i n = glue_fields (map decimal (words_from t i n))
+unfoldable pub field_bytes : List ℕ → List ℕ
+field_bytes numbers = glue_fields (map decimal numbers)
+
+unfoldable pub line_bytes : List ℕ → List ℕ → List ℕ
+line_bytes word row = glue_line (line_of word row)
 
 abbrev pub line_at : List ℕ → List ℕ → ℕ → Line
 line_at word t k = line_of word (words_from t (k * words) words)
-
-unfoldable pub line_bytes : List ℕ → List ℕ → ℕ → List ℕ
-line_bytes word t k = glue_line (line_at word t k)
 
 unfoldable pub row_bytes : List ℕ → List ℕ → ℕ → ℕ → List ℕ
 row_bytes word t k n = glue (rows_from (line_at word t) k n)

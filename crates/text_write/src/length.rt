@@ -1,5 +1,5 @@
 // How long a plan's text is.
-ghost use Rattle.std.specs.Prelude.{◌≡◌, ◌+◌, ◌*◌, ◌≤◌, length};
+ghost use Rattle.std.specs.Prelude.{◌≡◌, ◌*◌, ◌≤◌, length};
 ghost use Rattle.units.specs.Limits.{most_contacts, most_ranges};
 ghost use Rattle.plan.specs.Tables.{words};
 ghost use Rattle.text.specs.Calls.{text_of};
@@ -21,17 +21,14 @@ fn digits(n: u64) -> usize
     k
 }
 
-// How long `count` fields are, with their tabs. The first one's word stands at `from`.
-pub fn fields_length(table: &[u64], from: usize, count: usize) -> usize
-    requires { (from + count ≤ length table.now) × (count ≤ 512) }
-    ensures { (result ≡ length (field_bytes table.now from count)) × (result ≤ count * 21) }
+// How long the fields of the numbers are, with their tabs.
+pub fn fields_length(fields: &[u64]) -> usize
+    requires { length fields.now ≤ 512 }
+    ensures { (result ≡ length (field_bytes fields.now)) × (result ≤ length fields.now * 21) }
 {
-    let end = from + count;
     let mut sum = 0;
-    let mut i = from;
-    while i < end {
-        sum += 1 + digits(table[i]);
-        i += 1;
+    for n in fields {
+        sum += 1 + digits(*n);
     }
     sum
 }
@@ -42,10 +39,9 @@ fn rows_length(word: &[u8], table: &[u64], n: usize) -> usize
     ensures { (result ≡ length (row_bytes word.now table.now 0 n)) × (result ≤ n * 113) }
 {
     let mut sum = 0;
-    let mut k = 0;
-    while k < n {
-        sum += word.len() + fields_length(table, k * WORDS, WORDS) + 1;
-        k += 1;
+    for k in 0..n {
+        let row = &table[k * WORDS..(k + 1) * WORDS];
+        sum += word.len() + fields_length(row) + 1;
     }
     sum
 }

@@ -7,9 +7,9 @@ ghost use Rattle.text_write.specs.Model.{Wrote, field_bytes, line_bytes, row_byt
 
 use plan::WORDS;
 
-const TAB: u8 = 9;
+const TAB: u8 = b'\t';
 
-const LINE_FEED: u8 = 10;
+const LINE_FEED: u8 = b'\n';
 
 pub fn put_byte(out: &mut [u8], at: usize, b: u8) -> usize
     requires { at < length out.old }
@@ -23,12 +23,9 @@ pub fn put_bytes(out: &mut [u8], at: usize, bytes: &[u8]) -> usize
     requires { at + length bytes.now ≤ length out.old }
     ensures { Wrote out.old at bytes.now out.new result }
 {
-    let mut i = 0;
-    while i < bytes.len() {
-        out[at + i] = bytes[i];
-        i += 1;
-    }
-    at + i
+    let end = at + bytes.len();
+    out[at..end].copy_from_slice(bytes);
+    end
 }
 
 // The decimal digits of the number.
@@ -36,7 +33,7 @@ fn put_number(out: &mut [u8], at: usize, n: u64) -> usize
     requires { at + length (decimal n) ≤ length out.old }
     ensures { Wrote out.old at (decimal n) out.new result }
 {
-    let last = 48 + (n % 10) as u8;
+    let last = b'0' + (n % 10) as u8;
     if n < 10 {
         return put_byte(out, at, last);
     }
@@ -53,28 +50,25 @@ fn put_field(out: &mut [u8], at: usize, n: u64) -> usize
     put_number(out, next, n)
 }
 
-// Of the words from `from` on, `count` fields.
-pub fn put_fields(out: &mut [u8], at: usize, table: &[u64], from: usize, count: usize) -> usize
-    requires { (from + count ≤ length table.now) × (at + length (field_bytes table.now from count) ≤ length out.old) }
-    ensures { Wrote out.old at (field_bytes table.now from count) out.new result }
+// A field for each of the numbers.
+pub fn put_fields(out: &mut [u8], at: usize, fields: &[u64]) -> usize
+    requires { at + length (field_bytes fields.now) ≤ length out.old }
+    ensures { Wrote out.old at (field_bytes fields.now) out.new result }
 {
-    let end = from + count;
     let mut next = at;
-    let mut i = from;
-    while i < end {
-        next = put_field(out, next, table[i]);
-        i += 1;
+    for n in fields {
+        next = put_field(out, next, *n);
     }
     next
 }
 
-// The line of row k.
-fn put_line(out: &mut [u8], at: usize, word: &[u8], table: &[u64], k: usize) -> usize
-    requires { (k * words + words ≤ length table.now) × (at + length (line_bytes word.now table.now k) ≤ length out.old) }
-    ensures { Wrote out.old at (line_bytes word.now table.now k) out.new result }
+// The line of a row.
+fn put_line(out: &mut [u8], at: usize, word: &[u8], row: &[u64]) -> usize
+    requires { at + length (line_bytes word.now row.now) ≤ length out.old }
+    ensures { Wrote out.old at (line_bytes word.now row.now) out.new result }
 {
     let fields = put_bytes(out, at, word);
-    let end = put_fields(out, fields, table, k * WORDS, WORDS);
+    let end = put_fields(out, fields, row);
     put_byte(out, end, LINE_FEED)
 }
 
@@ -84,10 +78,9 @@ pub fn put_rows(out: &mut [u8], at: usize, word: &[u8], table: &[u64], n: usize)
     ensures { Wrote out.old at (row_bytes word.now table.now 0 n) out.new result }
 {
     let mut next = at;
-    let mut k = 0;
-    while k < n {
-        next = put_line(out, next, word, table, k);
-        k += 1;
+    for k in 0..n {
+        let row = &table[k * WORDS..(k + 1) * WORDS];
+        next = put_line(out, next, word, row);
     }
     next
 }

@@ -7,7 +7,6 @@ ghost use Rattle.text_write.specs.Model.{Wrote};
 use crate::length::text_length;
 use crate::put::{put_bytes, put_rows};
 use plan_valid::is_plan;
-use text::Written;
 use units::Refusal;
 
 // The header, the lines of the contacts and those of the ranges.
@@ -27,16 +26,16 @@ pub fn write(
     ranges: &[u64],
     range_count: usize,
     out: &mut [u8],
-) -> Written
+) -> Result<usize, Refusal>
     ensures { Writes contacts.now contact_count ranges.now range_count out.old result out.new }
 {
     if !is_plan(contacts, contact_count, ranges, range_count) {
-        return Written::Refused(Refusal::NoPlan);
+        return Err(Refusal::NoPlan);
     }
     let needed = text_length(contacts, contact_count, ranges, range_count);
     if out.len() < needed {
-        return Written::Refused(Refusal::ShortOutput(needed as u64));
+        return Err(Refusal::ShortOutput(needed as u64));
     }
     put_plan(out, contacts, contact_count, ranges, range_count);
-    Written::Length(needed)
+    Ok(needed)
 }

@@ -6,4 +6,4 @@ use lib.ListN.{get_or}
 use Rattle.plan_lists.proofs.linking.head_of.Goals as goal
 
 pub returns : goal.returns
-returns c = c.wide.ensures ∙ ap (λ (k : ℕ). get_or c.args.heads.now k 0) c.slot_of.ensures.0
+returns c = c.from.ensures ∙ ap (λ (k : ℕ). get_or c.args.heads.now k 0) c.slot_of.ensures.0

@@ -1,6 +1,6 @@
 -- `text_reader::through::read_lines` meets its contract.
 -- Assumes nothing.
-use Rattle.std.proofs.Common.{◌≡◌, ◌+◌, ◌<◌, ◌≤◌, length, refl, sym, ap, ◌∙◌, arith, length-drop, zero-le, List, ℕ}
+use Rattle.std.proofs.Common.{◌+◌, ◌<◌, length, sym, ap, ◌∙◌, arith, length-drop, zero-le, List, ℕ}
 use Rattle.std.proofs.lemmas.Result.{err_from_is_err_and}
 use borrow.Author.Tests.{ltb-true, ltb-false}
 use Rattle.plan.specs.Tables.{plan_of, rows_from}
