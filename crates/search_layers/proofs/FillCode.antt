@@ -17,7 +17,7 @@ use Rattle.units.specs.declared.Ask.{Ask}
 use Rattle.units.specs.Limits.{last_time, most_light, most_nodes}
 use Rattle.plan.specs.Plan.{Each}
 use Rattle.service.specs.Service.{Service, blank}
-use Rattle.timing.proofs.ChainCode.{length_served}
+use Rattle.service.proofs.HeldLaws.{length_served}
 use Rattle.service.specs.Tables.{served}
 use Rattle.units.specs.Asks.{GoodAsk}
 use Rattle.network.specs.Model.{behind, relaxed, layer}

@@ -21,7 +21,8 @@ use Rattle.plan_lists.specs.Lists.{LeastFrom, Nexts, Linked}
 use Rattle.plan_lists.specs.Model.{most_rows}
 use Rattle.service.specs.Service.{Service, InPlan}
 use Rattle.service.specs.Tables.{served, IsService}
-use Rattle.timing.proofs.ChainCode.{length_served, contact_lent, named_in_plan, named_good}
+use Rattle.service.proofs.HeldLaws.{length_served, contact_lent, named_in_plan}
+use Rattle.timing.proofs.ChainCode.{named_good}
 use Rattle.units.specs.Asks.{GoodAsk}
 use Rattle.network.specs.Model.{relax}
 use Rattle.network.specs.Network.{IsContact, Laws}

@@ -12,7 +12,8 @@ use Rattle.plan.specs.Plan.{GoodContact}
 use Rattle.plan.specs.Tables.{contact_at}
 use Rattle.service.specs.Service.{Service, contact_of, InPlan}
 use Rattle.service.specs.Tables.{served, IsService}
-use Rattle.timing.proofs.ChainCode.{contact_lent, named_good}
+use Rattle.service.proofs.HeldLaws.{contact_lent}
+use Rattle.timing.proofs.ChainCode.{named_good}
 use Rattle.search_layers.specs.Bridge.{network_of}
 
 pub record Read (p : Service) (c : ℕ) (x : Contact) : Type 0 where

@@ -96,7 +96,7 @@ pub fn serve(
 impl<'a> ServedPlan<'a> {
     // The plan as it serves an ask where nothing is booked, by way of the tables lent.
     pub fn unbooked(
-        plan: &CheckedPlan<'a>,
+        plan: &'a CheckedPlan,
         lights: &'a mut [u32; MOST_CONTACTS],
         lefts: &'a mut [u64; MOST_CONTACTS],
     ) -> ServedPlan<'a>

@@ -1,18 +1,16 @@
 -- What the loop along a chain knows of the model.
 --     goes_in_plan, steps_in_plan      a number that goes on names a contact of the plan
---     step_goes, step_stays            one step, by whether the contact goes on
 --     step_bounded      behind a contact of a valid plan the file is ready at a time that has room in a word
 --     carry_goes, carry_stops, carry_ends, carry_misses      the chain from place i on, by what the contact there does
 -- Assumes nothing.
 use Rattle.std.specs.Prelude.{cond, Option, Some, None}
-use mathlib.Core.Bool.{Bool, true, false, not, ◌&&◌}
+use mathlib.Core.Bool.{Bool, true, false, ◌&&◌}
 use mathlib.Core.List.{List, ◌∷◌}
-use mathlib.Core.Path.{◌≡◌, refl, sym, ap, ◌∙◌, subst}
-use Prim.Native.Nat.{ℕ, ◌+◌, ◌-◌, ◌≤◌, ◌<◌}
-use native.Mathlib.Nat.{zero-add}
+use mathlib.Core.Path.{◌≡◌, refl, sym, ap, ◌∙◌}
+use Prim.Native.Nat.{ℕ, ◌+◌, ◌≤◌, ◌<◌}
 use native.Mathlib.Numerals.{add-one}
 use native.Mathlib.Omega.{arith}
-use borrow.Author.Tests.{leb-true, le-leb, lt-leb, eq-eqb, ne_eqb}
+use borrow.Author.Tests.{leb-true}
 use lib.Dec.{eqb}
 use lib.ListN.{length, get_or, drop, drop_of_length-le}
 use lib.Seq.{drop-cons}
@@ -20,12 +18,7 @@ use Rattle.units.specs.Limits.{last_time, most_light}
 use Rattle.units.specs.declared.Ask.{Ask}
 use Rattle.units.specs.declared.Millis.{Millis}
 use Rattle.plan.specs.declared.rows.Contact.{Contact}
-use Rattle.plan.specs.Plan.{GoodContact}
-use Rattle.plan.specs.Tables.{contact_at}
-use Rattle.plan.proofs.RowList.{length_rows, get_d_rows}
-use Rattle.service.specs.Service.{Service, Sound, LightGood, blank, contact_of, light_in, left_in, InPlan}
-use Rattle.service.specs.Tables.{light_at, left_at, served, IsService}
-use Rattle.timing.specs.Hop.{hopped, is_barred}
+use Rattle.service.specs.Service.{Service, Sound, contact_of, light_in, left_in, InPlan}
 use Rattle.timing.specs.Model.{goes_on, over_contact, step_over, carry}
 use Rattle.service.proofs.Bounded.{light_good, contact_good}
 use Rattle.timing.proofs.HopLaws.{hop_bounded}
@@ -54,14 +47,6 @@ stepped p ask u t c a = go (goes_on p ask u c) refl
     go : (b : Bool) → goes_on p ask u c ≡ b → cond b (over_contact p ask c t) None ≡ a → Stepped p ask u t c a
     go true e f = went e f
     go false e f = stayed e f
-
-pub step_goes : (p : Service) (ask : Ask) (u t c : ℕ) (a : Option Millis) → goes_on p ask u c ≡ true → a ≡ over_contact p ask c t → a ≡ step_over p ask u t c
-unfolding step_over
-step_goes p ask u t c a g o = rw g o
-
-pub step_stays : (p : Service) (ask : Ask) (u t c : ℕ) → goes_on p ask u c ≡ false → None ≡ step_over p ask u t c
-unfolding step_over
-step_stays p ask u t c g = rw g
 
 pub steps_in_plan : (p : Service) (ask : Ask) (u t c : ℕ) (s : Millis) → step_over p ask u t c ≡ Some s → InPlan p c
 steps_in_plan p ask u t c s e = go (stepped p ask u t c (Some s) e)
@@ -102,17 +87,20 @@ from_place : (chain : List ℕ) (i : ℕ) → i < length chain → drop i chain 
 from_place chain i h = drop-cons chain i 0 h ∙ ap (λ (k : ℕ). get_or chain i 0 ∷ drop k chain) (sym (add-one i))
 
 module _ (p : Service) (ask : Ask) (u t : ℕ) (chain : List ℕ) (i : ℕ) where
-  pub carry_goes : (s : Millis) → i < length chain → step_over p ask u t (get_or chain i 0) ≡ Some s
-      → carry p ask u t (drop i chain) ≡ carry p ask (contact_of p (get_or chain i 0)).to.0 s.0 (drop (i + 1) chain)
-  carry_goes s h e = ap (carry p ask u t) (from_place chain i h) ∙ carry_ready p ask u t (get_or chain i 0) (drop (i + 1) chain) s e
+  pub carry_goes : (s : Millis) (x : Contact) → i < length chain → step_over p ask u t (get_or chain i 0) ≡ Some s → x ≡ contact_of p (get_or chain i 0)
+      → carry p ask u t (drop i chain) ≡ carry p ask x.to.0 s.0 (drop (i + 1) chain)
+  carry_goes s x h e ex =
+      ap (carry p ask u t) (from_place chain i h)
+      ∙ carry_ready p ask u t (get_or chain i 0) (drop (i + 1) chain) s e
+      ∙ ap (λ (y : Contact). carry p ask y.to.0 s.0 (drop (i + 1) chain)) (sym ex)
 
   pub carry_stops : i < length chain → step_over p ask u t (get_or chain i 0) ≡ None → carry p ask u t (drop i chain) ≡ None
   carry_stops h e = ap (carry p ask u t) (from_place chain i h) ∙ carry_unready p ask u t (get_or chain i 0) (drop (i + 1) chain) e
 
-  pub carry_ends : length chain ≤ i → u ≡ ask.destination.0 → carry p ask u t (drop i chain) ≡ Some (record { 0 = t })
+  pub carry_ends : length chain ≤ i → eqb u ask.destination.0 ≡ true → carry p ask u t (drop i chain) ≡ Some (record { 0 = t })
   unfolding carry
-  carry_ends h e = ap (carry p ask u t) (drop_of_length-le chain h) ∙ rw (eq-eqb u ask.destination.0 e)
+  carry_ends h e = ap (carry p ask u t) (drop_of_length-le chain h) ∙ rw e
 
-  pub carry_misses : length chain ≤ i → (u ≡ ask.destination.0 → ⊥) → carry p ask u t (drop i chain) ≡ None
+  pub carry_misses : length chain ≤ i → eqb u ask.destination.0 ≡ false → carry p ask u t (drop i chain) ≡ None
   unfolding carry
-  carry_misses h e = ap (carry p ask u t) (drop_of_length-le chain h) ∙ rw (ne_eqb u ask.destination.0 e)
+  carry_misses h e = ap (carry p ask u t) (drop_of_length-le chain h) ∙ rw e

@@ -4,7 +4,6 @@ pub mod Barred
 pub mod ChainCode
 pub mod ChainLaws
 pub mod Exclusion
-mod HopCode
 pub mod HopLaws
 pub mod Rounding
 pub mod ServedLaws

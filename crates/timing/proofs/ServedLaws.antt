@@ -14,7 +14,7 @@ use lib.Signed.{◌≤ℤ◌}
 use Rattle.units.specs.declared.Ask.{Ask}
 use Rattle.units.specs.declared.Millis.{Millis}
 use Rattle.plan.specs.declared.rows.Contact.{Contact}
-use Rattle.std.specs.Prelude.{Option, Some, None}
+use Rattle.std.specs.Prelude.{Option, Some}
 use Rattle.plan.specs.Light.{HasLight}
 use Rattle.plan.specs.Plan.{Plan, Valid}
 use Rattle.plan.proofs.Ranging.{has_light_determined}

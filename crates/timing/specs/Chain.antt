@@ -2,7 +2,7 @@
 --     Carries         a chain carries the file from a node and a time to a node and a time
 --     Allowed         it is allowed for an ask, and when it delivers; InTime
 -- Assumes nothing.
-use Rattle.std.specs.Prelude.{false, List, [], ◌∷◌, ◌≡◌, ℕ, ◌≤◌, ◌<◌, length, Some, None}
+use Rattle.std.specs.Prelude.{false, List, [], ◌∷◌, ◌≡◌, ℕ, ◌≤◌, ◌<◌, length, Some}
 use Rattle.units.specs.declared.Ask.{Ask}
 use Rattle.service.specs.Service.{Service, contact_of, light_in, left_in, InPlan}
 use Rattle.timing.specs.Hop.{hopped, is_barred}

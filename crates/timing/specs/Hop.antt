@@ -3,7 +3,7 @@
 --     hopped              when it is ready at the other end, if it is ready before the contact at t
 --     is_barred            the exclusion: a contact from the source to an excluded neighbour
 -- Assumes nothing.
-use Rattle.std.specs.Prelude.{cond, Bool, true, false, ◌&&◌, ℕ, ◌+◌, ◌-◌, ◌*◌, ◌/◌, ◌%◌, ◌^◌, max, leb, eqb, Option, Some, None}
+use Rattle.std.specs.Prelude.{cond, Bool, ◌&&◌, ℕ, ◌+◌, ◌-◌, ◌*◌, ◌/◌, ◌%◌, ◌^◌, max, leb, eqb, Option, Some, None}
 use Rattle.units.specs.declared.Ask.{Ask}
 use Rattle.plan.specs.declared.rows.Contact.{Contact}
 use Rattle.units.specs.declared.Millis.{Millis}

@@ -22,6 +22,7 @@ fn is_excluded(excluded: u64, n: NodeNo) -> bool
 }
 
 // Whether the contact goes from the source to an excluded neighbour.
+#[tactic(auto, unfolding(crate::specs::Hop::is_barred))]
 pub fn is_barred(ask: Ask, c: Contact) -> bool
     requires { GoodContact c }
     ensures { result ≡ is_barred ask c }
@@ -30,6 +31,7 @@ pub fn is_barred(ask: Ask, c: Contact) -> bool
 }
 
 // Whether the number names a contact of the plan that is from that node and not barred.
+#[tactic(auto, unfolding(crate::specs::Model::goes_on))]
 fn goes_on(service: &ServedPlan, ask: CheckedAsk, node: NodeNo, no: ContactNo) -> bool
     ensures { result ≡ goes_on (service_in service.now) ask.asked node.0 no.0 }
 {
@@ -41,6 +43,7 @@ fn goes_on(service: &ServedPlan, ask: CheckedAsk, node: NodeNo, no: ContactNo) -
 }
 
 // When the file is ready behind the contact of that number, if it is ready before it at `ready`.
+#[tactic(auto, unfolding(crate::specs::Model::over_contact))]
 pub fn over(service: &ServedPlan, ask: CheckedAsk, no: ContactNo, ready: Millis) -> Option<Millis>
     requires { InPlan (service_in service.now) no.0 × (ready.0 ≤ last_time + most_light) }
     ensures { result ≡ over_contact (service_in service.now) ask.asked no.0 ready.0 }
@@ -50,6 +53,7 @@ pub fn over(service: &ServedPlan, ask: CheckedAsk, no: ContactNo, ready: Millis)
 
 // When the file, ready at `node` at `ready`, is ready behind the contact of that number: never where
 // the contact does not go on from there.
+#[tactic(auto, unfolding(crate::specs::Model::step_over))]
 pub fn step(
     service: &ServedPlan,
     ask: CheckedAsk,

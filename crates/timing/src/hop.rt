@@ -34,6 +34,7 @@ fn done_at(pass: Pass, size: u64, ready: Millis) -> Millis
 
 // When the file is ready behind the contact, if it is ready before it at `ready`: never where the contact
 // has no light time, or the file does not fit it.
+#[tactic(auto, unfolding(crate::specs::Hop::hopped))]
 pub fn hop_over(pass: Pass, size: u64, ready: Millis) -> Option<Millis>
     requires { (size ≤ most_size) × (ready.0 ≤ last_time + most_light) }
     ensures { result ≡ hopped pass.light pass.left pass.contact size ready.0 }
@@ -51,6 +52,7 @@ pub fn hop_over(pass: Pass, size: u64, ready: Millis) -> Option<Millis>
 
 // The limit below which the file must be ready before the contact, so that it is ready behind it
 // below `limit`; 0 where it never is.
+#[tactic(auto, unfolding(crate::specs::Model::back_over))]
 pub fn back(pass: Pass, size: u64, limit: Millis) -> Millis
     requires { size ≤ most_size }
     ensures { result.0 ≡ back_over pass.light pass.left pass.contact size limit.0 }

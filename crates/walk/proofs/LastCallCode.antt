@@ -23,7 +23,7 @@ use Rattle.service.specs.Tables.{light_at, left_at, served}
 use Rattle.timing.specs.Chain.{Carries, stays, hops}
 use Rattle.timing.specs.Model.{back_over}
 use Rattle.walk.specs.Model.{limit_over, limit_before}
-use Rattle.timing.proofs.ChainCode.{contact_lent, light_lent, left_lent}
+use Rattle.service.proofs.HeldLaws.{contact_lent, light_lent, left_lent}
 use Rattle.walk.proofs.LastCallLaws.{limit_append}
 
 pub back_lent : (contacts : List ℕ) (m : ℕ) (lights lefts : List ℕ) (c : ℕ) → InPlan (served contacts m lights lefts) c → (size limit : ℕ) (x : Contact) (l : Option Millis) (left r : ℕ)

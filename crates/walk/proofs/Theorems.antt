@@ -21,14 +21,14 @@ use Rattle.units.specs.Limits.{last_time, most_size}
 use Rattle.plan.specs.Verdict.{Verdict, holds, fails}
 use Rattle.plan.proofs.Verdicts.{tells_lt}
 use Rattle.service.specs.Service.{Service, Sound}
-use Rattle.std.specs.Prelude.{Option, Some, None, Result, Ok, Err}
+use Rattle.std.specs.Prelude.{cond, Option, Some, None, Result, Ok, Err}
 use Rattle.units.specs.declared.Millis.{Millis}
 use Rattle.walk.specs.declared.figures.Figures.{Figures}
 use Rattle.units.specs.declared.Refusal.{Refusal}
 use Rattle.timing.specs.Chain.{Allowed, InTime}
 use Rattle.walk.specs.Figures.{IsLastCall, IsRoom, HasFigures}
 use Rattle.timing.specs.Model.{delivery_of}
-use Rattle.walk.specs.Model.{figures_of, cond, walked_of, walk_model}
+use Rattle.walk.specs.Model.{figures_of, walked_of, walk_model}
 use Rattle.units.specs.Asks.{GoodAsk}
 use Rattle.walk.specs.Walk.{WalksPlan, turned_down, too_late, carried, Walks, no_plan, bad_ask, same_node, walked}
 use Rattle.timing.proofs.ChainLaws.{carries_after, allowed_delivery, allowed_determined}

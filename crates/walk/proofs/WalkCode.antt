@@ -30,7 +30,7 @@ use Rattle.walk.specs.Model.{limit_before, room_of, figures_of, walk_model}
 use Rattle.timing.specs.Model.{delivery_of}
 use Rattle.walk_cause.specs.Model.{cause_of}
 use Rattle.units.specs.Asks.{GoodAsk}
-use Rattle.timing.proofs.ChainCode.{contact_lent}
+use Rattle.service.proofs.HeldLaws.{contact_lent}
 
 pub good_ask_tells : (ask : Ask) → Verdict (GoodAsk ask) (good_ask ask)
 good_ask_tells ask =

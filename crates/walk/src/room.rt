@@ -9,6 +9,7 @@ use timing::delivery;
 use units::{Ask, CheckedAsk, MOST_SIZE};
 
 // Whether the chain carries a file of `size` bytes in time, all else as asked.
+#[tactic(auto, unfolding(crate::specs::Model::carries_size))]
 fn is_carried(service: &ServedPlan, ask: CheckedAsk, chain: &[u64], size: u64) -> bool
     requires { (1 ≤ size) × (size ≤ most_size) }
     ensures { result ≡ carries_size (service_in service.now) ask.asked chain.now size }
@@ -20,6 +21,7 @@ fn is_carried(service: &ServedPlan, ask: CheckedAsk, chain: &[u64], size: u64) -
 }
 
 // The size with the bit added, where the chain still carries it.
+#[tactic(auto, unfolding(units::specs::Limits::most_size))]
 fn raise(service: &ServedPlan, ask: CheckedAsk, chain: &[u64], size: u64, bit: u64) -> u64
     requires { (size ≤ most_size) × (1 ≤ bit) × (bit ≤ 2 ^ size_bits) }
     ensures { result ≡ raised (service_in service.now) ask.asked chain.now size bit }

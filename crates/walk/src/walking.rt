@@ -75,31 +75,15 @@ pub fn walk_served(
     }
 }
 
-// The same over a checked plan, by way of a table of light times and of what is left.
-fn walk_through(
-    plan: &CheckedPlan,
-    ask: CheckedAsk,
-    chain: &[u64],
-    lights: &mut [u32; MOST_CONTACTS],
-    lefts: &mut [u64; MOST_CONTACTS],
-) -> Result<Figures, Refusal>
-    ensures { result ≡ walk_model (service_of (plan_in plan.now.tables) unused) ask.asked chain.now }
-{
-    let service = ServedPlan::unbooked(plan, lights, lefts);
-    walk_served(&service, ask, chain)
-}
-
-// The same, with those tables on the stack.
-fn walk_plan(
-    plan: &CheckedPlan,
-    ask: CheckedAsk,
-    chain: &[u64],
-) -> Result<Figures, Refusal>
+// The same over a checked plan, where nothing is booked: its light times and what is left of its
+// contacts stand on the stack.
+fn walk_plan(plan: &CheckedPlan, ask: CheckedAsk, chain: &[u64]) -> Result<Figures, Refusal>
     ensures { result ≡ walk_model (service_of (plan_in plan.now.tables) unused) ask.asked chain.now }
 {
     let mut lights = [BLANK_LIGHT; MOST_CONTACTS];
     let mut lefts = [BLANK_LEFT; MOST_CONTACTS];
-    walk_through(plan, ask, chain, &mut lights, &mut lefts)
+    let service = ServedPlan::unbooked(plan, &mut lights, &mut lefts);
+    walk_served(&service, ask, chain)
 }
 
 // Times the chain given for the ask, over the plan that the tables hold: its figures, or why it is

@@ -16,7 +16,7 @@ use Rattle.units.specs.declared.Ask.{Ask}
 use Rattle.units.specs.declared.Millis.{Millis}
 use Rattle.units.specs.declared.Refusal.{Refusal}
 use Rattle.units.specs.declared.Refusal.TheVariants.{EndsElsewhere}
-use Rattle.std.specs.Prelude.{Some, None}
+use Rattle.std.specs.Prelude.{Some}
 use Rattle.service.specs.Service.{Service, contact_of, light_in, left_in}
 use Rattle.timing.specs.Hop.{start_on}
 use Rattle.timing.proofs.AllowedLaws.{start_later, later_one, SentOver, Along, carries_exactly}

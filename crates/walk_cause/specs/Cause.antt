@@ -4,7 +4,7 @@
 --     HasFault        a fault of the contact of a number, reached at node u at time t, the i-th of the chain
 --     TurnedDown      the first contact at fault and the lowest of its faults, or that the chain ends elsewhere
 -- Assumes nothing.
-use Rattle.std.specs.Prelude.{true, List, ◌≡◌, ℕ, suc, ◌+◌, ◌≤◌, ◌<◌, length, get_or, take, Some, None}
+use Rattle.std.specs.Prelude.{true, List, ◌≡◌, ℕ, suc, ◌+◌, ◌≤◌, ◌<◌, length, get_or, take, None}
 use Rattle.units.specs.Refusals.{number_of}
 use Rattle.units.specs.declared.Ask.{Ask}
 use Rattle.units.specs.declared.Refusal.{Refusal}

@@ -10,6 +10,7 @@ use timing::{hop_over, is_barred};
 use units::{CheckedAsk, ContactNo, Millis, NodeNo, Refusal};
 
 // The last two tests: the contact is ranged, and the file fits.
+#[tactic(auto, unfolding(crate::specs::Model::judged_hop, timing::specs::Model::over_contact))]
 fn judge_hop(
     service: &ServedPlan,
     ask: CheckedAsk,
@@ -29,6 +30,7 @@ fn judge_hop(
 
 // The tests of a number that names a contact: it is from the node where the file is, and does not go
 // from the source to an excluded neighbour.
+#[tactic(auto, unfolding(crate::specs::Model::judged_named))]
 fn judge_named(
     service: &ServedPlan,
     ask: CheckedAsk,
@@ -52,6 +54,7 @@ fn judge_named(
 
 // The contact of that number, reached at `node` at `ready`, at that position of the chain: when the file is
 // ready behind it, or its lowest fault.
+#[tactic(auto, unfolding(crate::specs::Model::judged))]
 fn judge(
     service: &ServedPlan,
     ask: CheckedAsk,

@@ -9,7 +9,7 @@ use Rattle.search_choice.specs.Model.{chain_of}
 use Rattle.search_choice.proofs.ChooseCode.{working_begins, working_ends, lead_named, found_leads, found_goes}
 use Rattle.search_layers.proofs.NetworkLaws.{network_laws}
 use Rattle.search_layers.proofs.ReadCode.{contact_read}
-use Rattle.timing.proofs.ChainCode.{named_at_most}
+use Rattle.service.proofs.HeldLaws.{named_at_most}
 use Rattle.search_choice.proofs.choice.choose.Goals as goal
 
 -- the limit that it begins with is one more than the delivery

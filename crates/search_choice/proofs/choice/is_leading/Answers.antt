@@ -2,7 +2,7 @@
 -- Assumes nothing.
 use mathlib.Core.Path.{sym, subst}
 use native.Mathlib.Omega.{arith}
-use Rattle.timing.proofs.ChainCode.{named_at_most}
+use Rattle.service.proofs.HeldLaws.{named_at_most}
 use Rattle.search_layers.specs.Words.{TimeWord, never_word}
 use Rattle.search_choice.proofs.ChoiceCode.{leads_elsewhere, leads_never, leads_by}
 use Rattle.search_layers.proofs.NetworkLaws.{node_below}

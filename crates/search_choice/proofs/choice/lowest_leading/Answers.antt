@@ -2,7 +2,7 @@
 -- Assumes nothing.
 use mathlib.Core.Path.{sym, ◌∙◌}
 use native.Mathlib.Omega.{arith}
-use Rattle.timing.proofs.ChainCode.{named_in_plan}
+use Rattle.service.proofs.HeldLaws.{named_in_plan}
 use Rattle.search_choice.proofs.ChoiceCode.{lowest_begins, lowest_goes, lowest_stops, lowest_ends}
 use Rattle.search_layers.proofs.FillCode.{contacts_counted}
 use Rattle.search_choice.proofs.choice.lowest_leading.Goals as goal

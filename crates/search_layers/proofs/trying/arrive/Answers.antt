@@ -2,7 +2,7 @@
 -- Assumes nothing.
 use mathlib.Core.Path.{sym, ◌∙◌}
 use native.Mathlib.Omega.{arith}
-use Rattle.timing.proofs.ChainCode.{named_at_most}
+use Rattle.service.proofs.HeldLaws.{named_at_most}
 use Rattle.search_layers.specs.Words.{never_word}
 use Rattle.search_layers.proofs.ArriveCode.{open_time, arrive_shut, arrive_ready, arrive_unready}
 use Rattle.search_layers.proofs.ReadCode.{contact_read}

@@ -2,7 +2,7 @@
 -- Assumes nothing.
 use native.Mathlib.Omega.{arith}
 use Rattle.units.specs.Limits.{most_nodes}
-use Rattle.timing.proofs.ChainCode.{named_at_most}
+use Rattle.service.proofs.HeldLaws.{named_at_most}
 use Rattle.search_layers.proofs.ArriveCode.{late_by}
 use Rattle.search_layers.proofs.LayerCode.{ready_time, tried_late, tried_earlier, tried_later}
 use Rattle.search_layers.proofs.ReadCode.{contact_read}

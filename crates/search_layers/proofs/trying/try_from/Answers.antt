@@ -1,7 +1,7 @@
 -- `search_layers::trying::try_from` meets its contract. The loop's invariant: the contacts from the node before row i are tried.
 -- Assumes nothing.
 use native.Mathlib.Omega.{arith}
-use Rattle.timing.proofs.ChainCode.{named_in_plan}
+use Rattle.service.proofs.HeldLaws.{named_in_plan}
 use Rattle.search_layers.proofs.ListedCode.{seen_first, seen_ready, seen_next, next_later, seen_all}
 use Rattle.search_layers.proofs.NetworkLaws.{node_below}
 use Rattle.search_layers.proofs.trying.try_from.Goals as goal

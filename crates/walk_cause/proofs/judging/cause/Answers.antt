@@ -2,49 +2,29 @@
 -- Assumes nothing.
 use mathlib.Core.Path.{refl, sym, ◌∙◌}
 use native.Mathlib.Omega.{arith}
-use Rattle.timing.proofs.ChainCode.{named_at_most}
+use Rattle.service.proofs.HeldLaws.{held_sound}
 use Rattle.walk_cause.specs.Model.{cause_of}
-use Rattle.walk_cause.proofs.CauseCode.{judged_in_plan, judged_bounded, cause_stops, cause_ends, cause_lent}
+use Rattle.walk_cause.proofs.CauseCode.{judged_in_plan, judged_bounded, cause_stops, cause_ends, cause_goes}
 use Rattle.walk_cause.proofs.judging.cause.Goals as goal
 
 pub loop-i-init : goal.loop-i-init
 unfolding cause_of
-loop-i-init c = let pre = c.requires in (omega arith, omega (arith, pre.2), refl)
+loop-i-init c = record { within = omega arith; bounded = omega (arith, c.args.ask.good.time_most); told = refl }
 
-pub overflow_add-position : goal.overflow_add-position
-overflow_add-position c =
-    omega (arith, c.loop-i-test.true, c.well_formed)
+pub returns-in-Err : goal.returns-in-Err
+returns-in-Err c = sym (c.loop-i.invariant.told ∙ cause_stops _ _ _ _ _ _ c.loop-i-test.true _ (sym c.judge.ensures ∙ c.in-Err.is))
 
-pub judge-found-requires : goal.judge-found-requires
-judge-found-requires c =
-    let pre = c.requires in
-    (pre.0, pre.1, c.loop-i.invariant.1)
-
-pub contact_numbered-requires : goal.contact_numbered-requires
-contact_numbered-requires c =
-    let pre = c.requires in
-    let named = judged_in_plan _ _ _ _ _ _ _ (sym c.judge-found.ensures ∙ c.in-Good.is) in
-    omega (arith, named.least, named_at_most _ _ _ _ _ named, pre.0.contacts_lent)
-
-pub overflow_add-i : goal.overflow_add-i
-overflow_add-i c =
-    omega (arith, c.loop-i-test.true, c.well_formed)
+pub contact-requires : goal.contact-requires
+contact-requires c = judged_in_plan _ _ _ _ _ _ _ (sym c.judge.ensures ∙ c.in-Ok.is)
 
 pub loop-i-preserved : goal.loop-i-preserved
 loop-i-preserved c =
-    let pre = c.requires in
-    let passed = sym c.judge-found.ensures ∙ c.in-Good.is in (
-      omega arith,
-      judged_bounded _ _ _ _ pre.0.sound _ _ _ passed,
-      c.loop-i.invariant.2 ∙ cause_lent _ _ _ _ _ _ _ _ _ _ _ c.loop-i-test.true passed c.contact_numbered.ensures,
-    )
-
-pub returns-in-Fault : goal.returns-in-Fault
-returns-in-Fault c =
-    sym
-    (c.loop-i.invariant.2
-    ∙ cause_stops _ _ _ _ _ _ c.loop-i-test.true _ (sym c.judge-found.ensures ∙ c.in-Fault.is))
+    let passed = sym c.judge.ensures ∙ c.in-Ok.is in
+    record {
+      within = omega arith;
+      bounded = judged_bounded _ _ _ _ (held_sound c.args.service.now) _ _ _ passed;
+      told = c.loop-i.invariant.told ∙ cause_goes _ _ _ _ _ _ c.loop-i-test.true _ _ passed c.contact.ensures.is;
+    }
 
 pub returns : goal.returns
-returns c =
-    sym (c.loop-i.invariant.2 ∙ cause_ends _ _ _ _ _ _ c.loop-i.invariant.0 c.loop-i-test.false)
+returns c = sym (c.loop-i.invariant.told ∙ cause_ends _ _ _ _ _ _ c.loop-i.invariant.within c.loop-i-test.false)
