@@ -1,20 +1,14 @@
 -- What the code of `answer_lines` knows.
---     over_one, over_none      what its test of the input's length and of the first number says
 --     answered_into      where `answer_line` writes, it is the line's answer
 --     never_refused      with room for the longest answer it does write
 -- Assumes nothing.
-use mathlib.Core.Bool.{Bool, true, false, ◌||◌}
 use mathlib.Core.List.{List, [], ◌++◌, append-nil}
-use mathlib.Core.Logic.{◌⊎◌, inl, inr}
 use mathlib.Core.Path.{◌≡◌, refl, sym, ap, ◌∙◌}
 use Prim.Native.Nat.{ℕ, ◌+◌, ◌-◌, ◌^◌, ◌≤◌, ◌<◌}
 use native.Mathlib.Omega.{arith}
-use borrow.Author.Tests.{ltb-true, ltb-false}
 use borrow.Author.Rules.{part_to_end}
-use lib.Dec.{ltb}
 use lib.ListN.{length, take, drop, length-drop, drop_of_length-le}
 use Rattle.std.specs.Prelude.{Result, Ok, Err}
-use Rattle.units.specs.Limits.{most_text}
 use Rattle.units.specs.declared.Refusal.{Refusal}
 use Rattle.text.specs.Lines.{Line}
 use Rattle.search.specs.declared.answer.Best.{Best}
@@ -23,24 +17,6 @@ use Rattle.desk.specs.Answers.{answer_bytes, WritesAnswer, no_chain, too_short, 
 use Rattle.desk.specs.Desk.{Answers}
 use Rattle.desk.specs.Through.{longest, Says, says}
 use Rattle.desk.proofs.DeskLaws.{answers_has_room}
-
--- ---- what is taken
-
-pub over_one : (a b : ℕ) → ltb most_text a || ltb most_text b ≡ true → (most_text < a) ⊎ (most_text < b)
-over_one a b = go (ltb most_text a) (ltb most_text b) refl refl
-  where
-    go : (x y : Bool) → ltb most_text a ≡ x → ltb most_text b ≡ y → x || y ≡ true → (most_text < a) ⊎ (most_text < b)
-    go true y p q e = inl (ltb-true most_text a p)
-    go false true p q e = inr (ltb-true most_text b q)
-    go false false p q e = absurd (cc)
-
-pub over_none : (a b : ℕ) → ltb most_text a || ltb most_text b ≡ false → (a ≤ most_text) × (b ≤ most_text)
-over_none a b = go (ltb most_text a) (ltb most_text b) refl refl
-  where
-    go : (x y : Bool) → ltb most_text a ≡ x → ltb most_text b ≡ y → x || y ≡ false → (a ≤ most_text) × (b ≤ most_text)
-    go true y p q e = absurd (cc)
-    go false true p q e = absurd (cc)
-    go false false p q e = (ltb-false most_text a p, ltb-false most_text b q)
 
 -- ---- a line answered
 

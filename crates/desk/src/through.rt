@@ -92,7 +92,7 @@ pub fn answer_lines(
 ) -> Reached
     ensures { AnswersFrom tables.entry.contacts.now tables.entry.contact_count tables.entry.ranges.now tables.entry.range_count input.now from first out.old result out.new }
 {
-    if (MOST_TEXT < input.len()) | ((MOST_TEXT as u64) < first) {
+    if MOST_TEXT < input.len() || (MOST_TEXT as u64) < first {
         return Reached {
             at: from,
             number: first,
