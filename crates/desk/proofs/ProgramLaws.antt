@@ -36,7 +36,9 @@ same_refusal : {x y : Refusal} → ◌≡◌ {A = Result Counts Refusal} (Err x)
 same_refusal e = cc
 
 same_counts : {m n j k : ℕ} → ◌≡◌ {A = Result Counts Refusal} (Ok (counts m n)) (Ok (counts j k)) → (m ≡ j) × (n ≡ k)
-same_counts e = (cc, cc)
+same_counts {m} {n} {j} {k} e =
+    let same : counts m n ≡ counts j k = cc in
+    (ap (λ (c : Counts). c.contacts) same, ap (λ (c : Counts). c.ranges) same)
 
 module _ {text : List ℕ} where
   plan_or_not : {why : Refusal} {m n : ℕ} {a b c d : List ℕ} → Reads text blank_table blank_table (Err why) a b
