@@ -4,7 +4,7 @@
 -- Assumes nothing.
 use Prim.Native.Nat.{ℕ, ◌-◌}
 use native.Mathlib.Omega.{arith}
-use Rattle.std.specs.Prelude.{Some, None}
+use Rattle.std.specs.Prelude.{None}
 use Rattle.plan.specs.Plan.{GoodContact, Each}
 use Rattle.service.specs.Service.{Service, Sound, LightGood, blank, contact_of, light_in, InPlan}
 

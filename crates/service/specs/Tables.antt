@@ -4,7 +4,7 @@
 --     served               the service that the three tables hold
 --     IsService            they hold a sound one
 -- Assumes nothing.
-use Rattle.std.specs.Prelude.{cond, Bool, true, false, List, ℕ, ◌*◌, ◌≤◌, eqb, length, get_or, Option, Some, None}
+use Rattle.std.specs.Prelude.{cond, List, ℕ, ◌*◌, ◌≤◌, eqb, length, get_or, Option, Some, None}
 use Rattle.units.specs.declared.Millis.{Millis}
 use Rattle.plan.specs.Tables.{words, contact_at, rows_from}
 use Rattle.service.specs.Service.{Service, Sound}

@@ -106,8 +106,8 @@ impl<'a> ServedPlan<'a> {
         ServedPlan {
             contacts: plan.tables.contacts,
             contact_count: plan.tables.contact_count,
-            lights: lights,
-            lefts: lefts,
+            lights,
+            lefts,
         }
     }
 }

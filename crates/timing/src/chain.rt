@@ -13,6 +13,7 @@ use service::ServedPlan;
 use units::{Ask, CheckedAsk, ContactNo, Millis, NodeNo};
 
 // Whether the node is among the excluded neighbours: bit n - 1 of the number is for node n.
+#[tactic(auto, unfolding(units::specs::Limits::most_nodes, crate::specs::Hop::is_excluded))]
 fn is_excluded(excluded: u64, n: NodeNo) -> bool
     requires { IsNode n }
     ensures { result ≡ is_excluded excluded n.0 }

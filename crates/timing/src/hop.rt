@@ -9,6 +9,7 @@ use units::Millis;
 
 // The bytes that a file takes on a contact: its size, three for each whole hundred bytes of it, and three
 // hundredths of the rest, rounded up.
+#[tactic(auto, unfolding(units::specs::Limits::most_size, crate::specs::Hop::consumed))]
 pub fn consumption(size: u64) -> u64
     requires { size ≤ most_size }
     ensures { result ≡ consumed size }
@@ -17,6 +18,7 @@ pub fn consumption(size: u64) -> u64
 }
 
 // How long a contact of that rate sends a file of that size, rounded up.
+#[tactic(auto, using(crate::proofs::Rounding::consumed_most), unfolding(units::specs::Limits::most_rate, crate::specs::Hop::sent))]
 pub fn sending(size: u64, rate: u64) -> Millis
     requires { (size ≤ most_size) × (1 ≤ rate) × (rate ≤ most_rate) }
     ensures { result.0 ≡ sent size rate }
@@ -25,6 +27,7 @@ pub fn sending(size: u64, rate: u64) -> Millis
 }
 
 // When the file is done being sent over the contact, if it is ready before it at `ready`.
+#[tactic(auto, using(crate::proofs::Rounding::sent_most), unfolding(units::specs::Limits::last_time, units::specs::Limits::most_light))]
 fn done_at(pass: Pass, size: u64, ready: Millis) -> Millis
     requires { (size ≤ most_size) × (ready.0 ≤ last_time + most_light) }
     ensures { result.0 ≡ max ready.0 pass.contact.start.0 + sent size pass.contact.rate }

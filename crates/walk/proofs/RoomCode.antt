@@ -1,12 +1,12 @@
 -- What the loop of room knows of the model.
---     halved          the next bit
+--     bit_most, shifted      a bit has room in a word
 --     raised_most     a size never passes the largest
 --     room_begins, room_goes, room_ends      the sizes still to be tried
 -- Assumes nothing.
 use mathlib.Core.Bool.{Bool, true, false, ◌&&◌, cond}
 use mathlib.Core.List.{List}
 use mathlib.Core.Path.{◌≡◌, refl}
-use Prim.Native.Nat.{ℕ, zero, suc, ◌+◌, ◌-◌, ◌/◌, ◌^◌, ◌≤◌, ◌<◌}
+use Prim.Native.Nat.{ℕ, zero, suc, ◌+◌, ◌-◌, ◌*◌, ◌%◌, ◌^◌, ◌≤◌, ◌<◌}
 use native.Mathlib.Nat.{not-suc-le-zero}
 use native.Mathlib.Omega.{arith}
 use borrow.Author.Tests.{leb-true}
@@ -17,12 +17,13 @@ use Rattle.units.specs.declared.Ask.{Ask}
 use Rattle.service.specs.Service.{Service}
 use Rattle.walk.specs.Model.{carries_size, raised, room_from, size_bits, room_of}
 
-pub halved : (b bit : ℕ) → 0 < b → bit ≡ 2 ^ b → bit / 2 ≡ 2 ^ (b - 1)
-halved zero bit h e = absurd (not-suc-le-zero h)
-halved (suc b) bit h e = let less : suc b - 1 ≡ b = omega arith in rw less (omega arith)
+-- a bit that is made by a shift
+module _ (b : ℕ) (h : b ≤ size_bits) where
+  pub bit_most : 2 ^ b ≤ 2 ^ size_bits
+  bit_most = pow_mono h
 
-pub bit_most : (b : ℕ) → b ≤ size_bits → 2 ^ b ≤ 2 ^ size_bits
-bit_most b h = pow_mono h
+  pub shifted : 1 * 2 ^ b % 18_446_744_073_709_551_616 ≡ 2 ^ b
+  shifted = omega (arith, bit_most)
 
 module _ (p : Service) (ask : Ask) (chain : List ℕ) where
   pub raised_most : (n bit : ℕ) → n ≤ most_size → raised p ask chain n bit ≤ most_size

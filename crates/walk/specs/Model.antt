@@ -3,9 +3,8 @@
 --     room_from      the greatest size carried, found bit by bit
 --     walk_model     the answer
 -- Assumes nothing.
-use Rattle.std.specs.Prelude.{Bool, true, false, ◌&&◌, cond, List, [], ◌∷◌, ℕ, zero, suc, ◌+◌, ◌-◌, ◌^◌, leb, ltb, get_or, Option, Some, None, Result, Ok, Err}
-use Rattle.units.specs.Limits.{last_time, most_size}
-use Rattle.units.specs.Model.{is_node}
+use Rattle.std.specs.Prelude.{Bool, false, ◌&&◌, cond, List, [], ◌∷◌, ℕ, zero, suc, ◌+◌, ◌-◌, ◌^◌, leb, ltb, get_or, Option, Some, None, Result, Ok, Err}
+use Rattle.units.specs.Limits.{most_size}
 use Rattle.units.specs.declared.Ask.{Ask}
 use Rattle.units.specs.declared.Refusal.TheVariants.{TooLate}
 use Rattle.service.specs.Service.{Service, contact_of, light_in, left_in}

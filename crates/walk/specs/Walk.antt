@@ -1,7 +1,6 @@
 -- What `walk` promises: refusals in the order 9, 11, 12, 18 to 23, 14, or the chain's figures.
 -- Assumes nothing.
 use Rattle.std.specs.Prelude.{List, ◌≡◌, ℕ, ◌≤◌, Result, Ok, Err}
-use Rattle.units.specs.Limits.{IsNode, last_time, most_size}
 use Rattle.units.specs.Asks.{GoodAsk}
 use Rattle.units.specs.declared.Ask.{Ask}
 use Rattle.units.specs.declared.Refusal.{Refusal}

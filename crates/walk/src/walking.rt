@@ -19,6 +19,7 @@ use units::{Ask, CheckedAsk, ContactNo, MOST_CONTACTS, Millis, Refusal};
 use walk_cause::cause;
 
 // When the file starts on the chain's first contact.
+#[tactic(auto, unfolding(plan::specs::Plan::Each))]
 fn opens(service: &ServedPlan, ask: CheckedAsk, chain: &[u64]) -> Millis
     requires { Each (InPlan (service_in service.now)) chain.now × (1 ≤ length chain.now) }
     ensures { result.0 ≡ start_on (contact_of (service_in service.now) (get_or chain.now 0 0)) ask.asked.time.0 }
@@ -37,6 +38,7 @@ fn last_call(service: &ServedPlan, ask: CheckedAsk, chain: &[u64]) -> Millis
 }
 
 // The figures of a chain that delivers at `delivered`.
+#[tactic(auto, unfolding(crate::specs::Model::figures_of))]
 pub fn figures_of(
     service: &ServedPlan,
     ask: CheckedAsk,
@@ -58,11 +60,8 @@ pub fn figures_of(
 }
 
 // The figures of the chain over a plan as it serves the ask, or why it is refused.
-pub fn walk_served(
-    service: &ServedPlan,
-    ask: CheckedAsk,
-    chain: &[u64],
-) -> Result<Figures, Refusal>
+#[tactic(auto, unfolding(crate::specs::Model::walk_model))]
+pub fn walk_served(service: &ServedPlan, ask: CheckedAsk, chain: &[u64]) -> Result<Figures, Refusal>
     ensures { result ≡ walk_model (service_in service.now) ask.asked chain.now }
 {
     let Some(delivered) = delivery(service, ask, chain) else {

@@ -1,7 +1,6 @@
 -- `service::serving::serve_along` meets its contract. The loop's invariant: the words beside the rows so far say their light times and their volumes, and what is kept of the
 -- walks along the lists holds.
 -- Assumes nothing.
-use mathlib.Core.Path.{refl}
 use Prim.Native.Nat.{◌<◌}
 use native.Mathlib.Omega.{arith}
 use lib.ListN.{length}

@@ -5,7 +5,7 @@ use native.Mathlib.Omega.{arith}
 use Rattle.units.specs.Limits.{most_contacts}
 use Rattle.service.specs.Service.{LightGood}
 use Rattle.service.proofs.Bounded.{light_good}
-use Rattle.service.proofs.HeldLaws.{held_sound, held_counted, held_light, held_left, held_at_most}
+use Rattle.service.proofs.HeldLaws.{held_sound, held_light, held_left, held_at_most}
 use Rattle.service.proofs.tables.ServedPlan.pass.Goals as goal
 
 pub offset_bounds-self-row : goal.offset_bounds-self-row
