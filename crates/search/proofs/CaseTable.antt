@@ -12,6 +12,7 @@ use lib.Dec.{leb, eqb}
 use lib.ListN.{length, drop}
 use Rattle.units.specs.Limits.{most_nodes, last_time, most_size, most_rate, most_light, most_contacts, most_ranges, most_chain}
 use Rattle.units.specs.declared.Ask.{Ask}
+use Rattle.units.specs.declared.Refusal.{Refusal}
 use Rattle.units.specs.declared.Refusal.TheVariants.{SameNode, NoChain, TooLate}
 use Rattle.plan.specs.Light.{shared_by, shared_time, largest_light, light_of}
 use Rattle.plan.specs.Model.{is_valid}
@@ -31,8 +32,8 @@ use Rattle.network.specs.Model.{delivery, chosen}
 use Rattle.search_layers.specs.Bridge.{network_of}
 use Rattle.search.specs.Model.{route_model, route_after}
 use Rattle.search.specs.Route.{Routes, RoutesPlan, same_node, routed}
-use Rattle.search.specs.declared.answer.Routed.{Routed}
-use Rattle.search.specs.declared.answer.Routed.TheVariants.{Best, Refused}
+use Rattle.std.specs.Prelude.{Result, Ok, Err}
+use Rattle.search.specs.declared.answer.Best.{Best}
 use Rattle.search.proofs.Theorems.{route_model_routes}
 
 -- lent tables with their counts
@@ -46,7 +47,7 @@ pub record Tables : Type 0 where
 pub record Row : Type 0 where
   pub tables : Tables
   pub ask : Ask
-  pub answer : Routed
+  pub answer : Result Best Refusal
   pub chain : List ℕ
 
 -- the row is what `route` promises, for every lent chain that is long enough: the chain stands in its first places, and the rest is as it was
@@ -71,9 +72,13 @@ asked source destination time size deadline excluded = record {
 }
 
 -- an answer with a chain, its numbers in the order of a printed line
-abbrev pub found : ℕ → ℕ → ℕ → ℕ → ℕ → Routed
+abbrev pub found : ℕ → ℕ → ℕ → ℕ → ℕ → Result Best Refusal
 found delivery opens last room count =
-    Best (record { delivery = record { 0 = delivery }; opens = record { 0 = opens }; last_call = record { 0 = last }; room = room }) count
+    Ok
+    (record {
+      figures = record { delivery = record { 0 = delivery }; opens = record { 0 = opens }; last_call = record { 0 = last }; room = room };
+      count = count;
+    })
 
 -- the plan of cases A to G
 abbrev pub plan_AG : Tables
@@ -141,13 +146,13 @@ case_table =
     record { tables = plan_AG; ask = asked 1 3 0 1000 30000 0; answer = found 6080 0 5900 2427 2; chain = 1 ∷ 2 ∷ [] }
     ∷ record { tables = plan_AG; ask = asked 1 3 0 1000 30000 2; answer = found 19600 8000 9700 1165 1; chain = 3 ∷ [] }
     ∷ record { tables = plan_AG; ask = asked 1 3 0 1000 6081 0; answer = found 6080 0 2960 1000 2; chain = 1 ∷ 2 ∷ [] }
-    ∷ record { tables = plan_AG; ask = asked 1 3 0 1000 6080 0; answer = Refused TooLate; chain = [] }
+    ∷ record { tables = plan_AG; ask = asked 1 3 0 1000 6080 0; answer = Err TooLate; chain = [] }
     ∷ record { tables = plan_AG; ask = asked 1 3 9000 1000 30000 0; answer = found 20600 9000 9700 1067 1; chain = 3 ∷ [] }
-    ∷ record { tables = plan_AG; ask = asked 3 1 0 1000 30000 0; answer = Refused NoChain; chain = [] }
-    ∷ record { tables = plan_AG; ask = asked 1 1 0 1000 30000 0; answer = Refused SameNode; chain = [] }
+    ∷ record { tables = plan_AG; ask = asked 3 1 0 1000 30000 0; answer = Err NoChain; chain = [] }
+    ∷ record { tables = plan_AG; ask = asked 1 1 0 1000 30000 0; answer = Err SameNode; chain = [] }
     ∷ record { tables = plan_H; ask = asked 1 4 0 1000 20000 0; answer = found 5002 500 1998 1456310 2; chain = 3 ∷ 4 ∷ [] }
     ∷ record { tables = plan_I; ask = asked 1 4 0 1000 20000 0; answer = found 4 0 996 485436 2; chain = 2 ∷ 3 ∷ [] }
-    ∷ record { tables = plan_empty; ask = asked 1 3 0 1000 30000 0; answer = Refused NoChain; chain = [] }
+    ∷ record { tables = plan_empty; ask = asked 1 3 0 1000 30000 0; answer = Err NoChain; chain = [] }
     ∷ []
 
 abbrev plan_in : Tables → Plan
@@ -167,7 +172,7 @@ good_tables_tells t =
     (both (both (tells_le (t.contact_count * words) (length t.contacts)) (tells_le (t.range_count * words) (length t.ranges))) (valid_tells (plan_in t)))
 
 -- a row that the model answers
-by_model : (tables : Tables) (ask : Ask) (answer : Routed) (chain : List ℕ) → good_tables tables ≡ true → good_ask ask ≡ true
+by_model : (tables : Tables) (ask : Ask) (answer : Result Best Refusal) (chain : List ℕ) → good_tables tables ≡ true → good_ask ask ≡ true
     → eqb ask.source.0 ask.destination.0 ≡ false
     → route_model (service_in tables) ask ≡ answer
     → ((before : List ℕ) → route_after (service_in tables) ask before ≡ chain ++ drop (length chain) before)

@@ -4,11 +4,10 @@
 --     find_none, find_late, find_best      what is found, by the tests in their order
 -- Assumes nothing.
 use mathlib.Core.List.{List, ◌++◌}
-use mathlib.Core.Logic.{⊎_elim}
-use mathlib.Core.Path.{◌≡◌, sym, ap, ◌∙◌, subst}
+use mathlib.Core.Path.{◌≡◌, sym, ap, ◌∙◌}
 use Prim.Native.Nat.{ℕ, ◌+◌, ◌*◌, ◌≤◌, ◌<◌}
 use native.Mathlib.Decide.{dec_le}
-use native.Mathlib.Nat.{le_refl, mul-le-mul_right}
+use native.Mathlib.Nat.{le_refl}
 use native.Mathlib.Omega.{arith}
 use borrow.Author.Tests.{lt-ltb, le-ltb}
 use lib.ListN.{length, get_or, drop}
@@ -21,8 +20,12 @@ use Rattle.network.specs.Model.{earliest, delivery, fewest}
 use Rattle.network.specs.Network.{When, at, never, Network}
 use Rattle.network.proofs.Theorems.{fewest_is, fewest_length}
 use Rattle.search_layers.specs.Bridge.{network_of, goal}
-use Rattle.search_layers.specs.Words.{never_word, when_word, TimeWord, row_of, Filled, FirstRow}
-use Rattle.search_layers.proofs.RowLaws.{when_never, when_below, when_time, time_most, time_row, get_d_layer}
+use Rattle.std.specs.Prelude.{Ok, Err}
+use Rattle.search_layers.specs.declared.rows.Layers.{Layers}
+use Rattle.search_layers.specs.Layered.{Filled}
+use Rattle.search_layers.specs.Words.{never_word, when_word, row_of, FirstRow}
+use Rattle.search_layers.proofs.FillCode.{inside}
+use Rattle.search_layers.proofs.RowLaws.{when_never, when_below, when_time, time_below, time_most, time_row, get_d_layer}
 use Rattle.search_choice.specs.Model.{chain_of}
 use Rattle.search.specs.declared.answer.Found.TheVariants.{Chain, Nothing}
 use Rattle.search.specs.Model.{found_of, find_model, chain_after, route_after}
@@ -47,58 +50,49 @@ when_injective a b ha hb e = go (dec_le never_word a) (dec_le never_word b)
         let tb : when_word b ≡ at b = when_below b (omega arith) in
         cc
 
--- a row up to the last lies inside the words
-pub row_inside : (N : Network) (words : List ℕ) (last k : ℕ) → Filled N words last → k ≤ last → (k + 1) * most_nodes ≤ length words
-row_inside N words last k f h =
-    let fewer : k + 1 ≤ most_nodes = omega (arith, f.most) in
-    subst (λ (n : ℕ). (k + 1) * most_nodes ≤ n) (sym f.long) (mul-le-mul_right most_nodes fewer)
-
-module _ (p : Service) (ask : Ask) (good : GoodAsk ask) (words : List ℕ) (last : ℕ)
-    (filled : Filled (network_of p ask) words last) where
+module _ (p : Service) (ask : Ask) (good : GoodAsk ask) (layers : Layers) (last : ℕ)
+    (filled : Filled (network_of p ask) layers last) where
   abbrev N : Network
   N = network_of p ask
+
+  row_room : (k : ℕ) → k ≤ last → (k + 1) * most_nodes ≤ length layers.words
+  row_room k h = inside layers k (omega (arith, filled.most))
 
   goal_below : goal ask < most_nodes
   goal_below = omega (arith, good.destination_node)
 
   -- when a node is reached over at most k contacts
-  row_says : (k : ℕ) → k ≤ last → earliest N k (goal ask) ≡ when_word (get_or (row_of words k) (goal ask) 0)
+  row_says : (k : ℕ) → k ≤ last → earliest N k (goal ask) ≡ when_word (get_or (row_of layers.words k) (goal ask) 0)
   unfolding earliest
   row_says k h =
       ap (λ (l : List When). get_or l (goal ask) never) (sym (filled.rows k h))
-      ∙ get_d_layer words k (goal ask) (row_inside N words last k filled h) goal_below
+      ∙ get_d_layer layers.words k (goal ask) (row_room k h) goal_below
 
-  module _ (d : ℕ) (ed : d ≡ get_or (row_of words last) (goal ask) 0) where
+  module _ (d : ℕ) (ed : d ≡ get_or (row_of layers.words last) (goal ask) 0) where
     pub delivered_is : delivery N (goal ask) ≡ when_word d
     unfolding delivery earliest network_of
     delivered_is =
         ap (λ (l : List When). get_or l (goal ask) never) filled.settled ∙ row_says last (le_refl last) ∙ ap when_word (sym ed)
 
-    pub delivered_word : TimeWord d
-    delivered_word = subst TimeWord (sym ed) (time_row words last (goal ask) filled.timed (row_inside N words last last filled (le_refl last)) goal_below)
-
-    pub find_none : (before : List ℕ) → d ≡ never_word → (Nothing NoChain ≡ find_model p ask) × (before ≡ route_after p ask before)
+    pub find_none : (before : List ℕ) → d ≡ never_word → (Err NoChain ≡ find_model p ask) × (before ≡ route_after p ask before)
     unfolding find_model route_after found_of chain_after
     find_none before e =
         let is : delivery N (goal ask) ≡ never = delivered_is ∙ when_never d e in
         (rw is, rw is)
 
-    module _ (some : d ≡ never_word → ⊥) where
-      pub delivered_most : d ≤ last_time + most_light
-      delivered_most = ⊎_elim (λ h. h) (λ e. absurd (some e)) delivered_word
-
+    module _ (bound : d ≤ last_time + most_light) where
       pub delivered_at : delivery N (goal ask) ≡ at d
-      delivered_at = delivered_is ∙ when_time d delivered_most
+      delivered_at = delivered_is ∙ when_time d bound
 
-      pub find_late : (before : List ℕ) → ask.deadline.0 ≤ d → (Nothing TooLate ≡ find_model p ask) × (before ≡ route_after p ask before)
+      pub find_late : (before : List ℕ) → ask.deadline.0 ≤ d → (Err TooLate ≡ find_model p ask) × (before ≡ route_after p ask before)
       unfolding find_model route_after found_of chain_after
       find_late before h = (rw (delivered_at, le-ltb d ask.deadline.0 h), rw (delivered_at, le-ltb d ask.deadline.0 h))
 
       -- a row's word against the last row's
-      row_word : (k : ℕ) → k ≤ last → get_or (row_of words k) (goal ask) 0 ≤ never_word
-      row_word k h = time_most (get_or (row_of words k) (goal ask) 0) (time_row words k (goal ask) filled.timed (row_inside N words last k filled h) goal_below)
+      row_word : (k : ℕ) → k ≤ last → get_or (row_of layers.words k) (goal ask) 0 ≤ never_word
+      row_word k h = time_most (get_or (row_of layers.words k) (goal ask) 0) (time_row layers.words k (goal ask) layers.timed (row_room k h) goal_below)
 
-      module _ (count : ℕ) (first : FirstRow words last (goal ask) d count) where
+      module _ (count : ℕ) (first : FirstRow layers.words last (goal ask) d count) where
         pub count_is : count ≡ fewest N (goal ask)
         unfolding network_of
         count_is =
@@ -107,7 +101,7 @@ module _ (p : Service) (ask : Ask) (good : GoodAsk ask) (words : List ℕ) (last
             (row_says count first.most ∙ ap when_word first.has ∙ sym delivered_is)
             (λ j h e.
             first.none_before j h
-            (when_injective (get_or (row_of words j) (goal ask) 0) d (row_word j (omega (arith, first.most))) (time_most d delivered_word)
+            (when_injective (get_or (row_of layers.words j) (goal ask) 0) d (row_word j (omega (arith, first.most))) (time_below d bound)
             (sym (row_says j (omega (arith, first.most))) ∙ e ∙ delivered_is))))
 
         pub count_room : count ≤ most_chain
@@ -119,7 +113,7 @@ module _ (p : Service) (ask : Ask) (good : GoodAsk ask) (words : List ℕ) (last
         chain_long = fewest_length N (goal ask) d ∙ sym count_is
 
         pub find_best : (entry exit : List ℕ) → d < ask.deadline.0 → exit ≡ chain_of p ask d ++ drop count entry
-            → (Chain (record { 0 = d }) count ≡ find_model p ask) × (exit ≡ route_after p ask entry)
+            → (Ok (record { delivered = record { 0 = d }; count = count }) ≡ find_model p ask) × (exit ≡ route_after p ask entry)
         unfolding find_model route_after found_of chain_after
         find_best entry exit h written = (
           rw (delivered_at, lt-ltb d ask.deadline.0 h, chain_long),

@@ -26,7 +26,8 @@ use Rattle.plan.specs.Verdict.{Verdict, holds, fails}
 use Rattle.plan.proofs.Verdicts.{tells_lt}
 use Rattle.service.specs.Service.{Service, Sound, unused}
 use Rattle.walk.specs.declared.figures.Figures.{Figures}
-use Rattle.std.specs.Prelude.{Ok, Err}
+use Rattle.std.specs.Prelude.{cond, Result, Ok, Err}
+use Rattle.units.specs.declared.Refusal.{Refusal}
 use Rattle.service.proofs.ServiceLaws.{service_sound}
 use Rattle.timing.specs.Chain.{Allowed}
 use Rattle.walk.specs.Figures.{HasFigures}
@@ -42,12 +43,10 @@ use Rattle.network.specs.Network.{When, at, never}
 use Rattle.network.proofs.Theorems.{chosen_best, never_unreached}
 use Rattle.search_layers.specs.Bridge.{network_of, goal}
 use Rattle.search_choice.specs.Model.{chain_of}
-use Rattle.search.specs.Model.{pick_found, found_of, find_model, answer_of, chain_after, route_model, route_after}
+use Rattle.search.specs.Model.{found_of, find_model, answer_of, chain_after, route_model, route_after}
 use Rattle.search.specs.Route.{IsBest, RoutesPlan, no_chain, too_late, best, Routes, short_chain, no_plan, bad_ask, same_node, routed}
 use Rattle.search.specs.declared.answer.Found.{Found}
-use Rattle.search.specs.declared.answer.Found.TheVariants.{Chain, Nothing}
-use Rattle.search.specs.declared.answer.Routed.{Routed}
-use Rattle.search.specs.declared.answer.Routed.TheVariants.{Best, Refused}
+use Rattle.search.specs.declared.answer.Best.{Best}
 use Rattle.search.proofs.BestLaws.{is_best_best, is_best_unique, is_best_short}
 use Rattle.search.proofs.Chains.{allowed_reaches}
 use Rattle.search_layers.proofs.NetworkLaws.{network_laws, goal_node, goal_apart}
@@ -58,47 +57,47 @@ record Returned (p : Service) (ask : Ask) (f : Figures) (n : ℕ) (chain : List 
   figures : HasFigures p ask chain f
   count : length chain ≡ n
 
-returned : {p : Service} {ask : Ask} {before : List ℕ} {f : Figures} {n : ℕ} {after : List ℕ} → RoutesPlan p ask before (Best f n) after
+returned : {p : Service} {ask : Ask} {before : List ℕ} {f : Figures} {n : ℕ} {after : List ℕ} → RoutesPlan p ask before (Ok (record { figures = f; count = n })) after
     → Returned p ask f n (take n after)
 returned {before} (best {chain} b h) =
     rw (take_at chain (drop (length chain) before) (length chain) refl) (record { is_best = b; figures = h; count = refl })
 
 module _ {p : Service} {ask : Ask} {before : List ℕ} {f : Figures} {n : ℕ} {after : List ℕ} where
-  pub route_allowed_in_time : RoutesPlan p ask before (Best f n) after → Allowed p ask (take n after) f.delivery.0 × (f.delivery.0 < ask.deadline.0)
+  pub route_allowed_in_time : RoutesPlan p ask before (Ok (record { figures = f; count = n })) after → Allowed p ask (take n after) f.delivery.0 × (f.delivery.0 < ask.deadline.0)
   route_allowed_in_time h = ((returned h).is_best.allowed, (returned h).figures.in_time)
 
-  pub route_none_earlier : RoutesPlan p ask before (Best f n) after → (other : List ℕ) (s : ℕ) → Allowed p ask other s → f.delivery.0 ≤ s
+  pub route_none_earlier : RoutesPlan p ask before (Ok (record { figures = f; count = n })) after → (other : List ℕ) (s : ℕ) → Allowed p ask other s → f.delivery.0 ≤ s
   route_none_earlier h = (returned h).is_best.none_earlier
 
-  pub route_none_shorter : RoutesPlan p ask before (Best f n) after → (other : List ℕ) → Allowed p ask other f.delivery.0 → n ≤ length other
+  pub route_none_shorter : RoutesPlan p ask before (Ok (record { figures = f; count = n })) after → (other : List ℕ) → Allowed p ask other f.delivery.0 → n ≤ length other
   route_none_shorter h other a = omega (arith, (returned h).is_best.none_shorter other a, (returned h).count)
 
-  pub route_ties : RoutesPlan p ask before (Best f n) after → (other : List ℕ) → Allowed p ask other f.delivery.0 → length other ≡ n
+  pub route_ties : RoutesPlan p ask before (Ok (record { figures = f; count = n })) after → (other : List ℕ) → Allowed p ask other f.delivery.0 → length other ≡ n
       → (take n after ≡ other) ⊎ LowerBack (take n after) other
   route_ties h other a e = (returned h).is_best.lowest other a (e ∙ sym (returned h).count)
 
-  pub route_short : Sound p → GoodAsk ask → (ask.source.0 ≡ ask.destination.0 → ⊥) → RoutesPlan p ask before (Best f n) after → n ≤ most_chain
+  pub route_short : Sound p → GoodAsk ask → (ask.source.0 ≡ ask.destination.0 → ⊥) → RoutesPlan p ask before (Ok (record { figures = f; count = n })) after → n ≤ most_chain
   route_short valid good differ h = omega (arith, is_best_short p valid ask good differ (returned h).is_best, (returned h).count)
 
-  pub route_walks : RoutesPlan p ask before (Best f n) after → WalksPlan p ask (take n after) (Ok f)
+  pub route_walks : RoutesPlan p ask before (Ok (record { figures = f; count = n })) after → WalksPlan p ask (take n after) (Ok f)
   route_walks h = carried (returned h).figures
 
 module _ {p : Service} {ask : Ask} {before : List ℕ} where
-  pub refused_13_exactly : {r : Routed} {after : List ℕ} → RoutesPlan p ask before r after
-      → (r ≡ Refused NoChain) ↔ ((chain : List ℕ) (s : ℕ) → Allowed p ask chain s → ⊥)
+  pub refused_13_exactly : {r : Result Best Refusal} {after : List ℕ} → RoutesPlan p ask before r after
+      → (r ≡ Err NoChain) ↔ ((chain : List ℕ) (s : ℕ) → Allowed p ask chain s → ⊥)
   refused_13_exactly (no_chain n) = (λ e. n, λ h. refl)
   refused_13_exactly (too_late a l) = (λ e. let z : ◌≡◌ {A = ℕ} 0 1 = cc in absurd (omega arith), λ h. absurd (h _ _ a))
   refused_13_exactly (best b f) = (λ e. let z : ◌≡◌ {A = ℕ} 0 1 = cc in absurd (omega arith), λ h. absurd (h _ _ b.allowed))
 
-  pub refused_14_exactly : {r : Routed} {after : List ℕ} → RoutesPlan p ask before r after
-      → (r ≡ Refused TooLate)
+  pub refused_14_exactly : {r : Result Best Refusal} {after : List ℕ} → RoutesPlan p ask before r after
+      → (r ≡ Err TooLate)
       ↔ (((chain : List ℕ) × (s : ℕ) × Allowed p ask chain s) × ((other : List ℕ) (s : ℕ) → Allowed p ask other s → ask.deadline.0 ≤ s))
   refused_14_exactly (no_chain n) = (λ e. let z : ◌≡◌ {A = ℕ} 0 1 = cc in absurd (omega arith), λ h. absurd (n _ _ h.0.2))
   refused_14_exactly (too_late a l) = (λ e. ((_, _, a), l), λ h. refl)
   refused_14_exactly (best b f) =
       (λ e. let z : ◌≡◌ {A = ℕ} 0 1 = cc in absurd (omega arith), λ h. absurd (omega (arith, h.1 _ _ b.allowed, f.in_time)))
 
-  pub routes_plan_determined : {r₁ r₂ : Routed} {after₁ after₂ : List ℕ} → RoutesPlan p ask before r₁ after₁ → RoutesPlan p ask before r₂ after₂
+  pub routes_plan_determined : {r₁ r₂ : Result Best Refusal} {after₁ after₂ : List ℕ} → RoutesPlan p ask before r₁ after₁ → RoutesPlan p ask before r₂ after₂
       → (r₁ ≡ r₂) × (after₁ ≡ after₂)
   routes_plan_determined (no_chain n) (no_chain n') = (refl, refl)
   routes_plan_determined (no_chain n) (too_late a l) = absurd (n _ _ a)
@@ -111,10 +110,10 @@ module _ {p : Service} {ask : Ask} {before : List ℕ} where
   routes_plan_determined (best {f = f₁} b₁ h₁) (best b₂ h₂) =
       let same = (is_best_unique b₁ b₂).0 in
       let figures = figures_unique (subst (λ chain. HasFigures p ask chain f₁) same h₁) h₂ in
-      (λ i. Best (figures i) (length (same i)), λ i. same i ++ drop (length (same i)) before)
+      (λ i. Ok (record { figures = figures i; count = length (same i) }), λ i. same i ++ drop (length (same i)) before)
 
 module _ {contacts : List ℕ} {m : ℕ} {ranges : List ℕ} {n : ℕ} {ask : Ask} {before : List ℕ} where
-  pub routes_determined : {r₁ r₂ : Routed} {after₁ after₂ : List ℕ} → Routes contacts m ranges n ask before r₁ after₁
+  pub routes_determined : {r₁ r₂ : Result Best Refusal} {after₁ after₂ : List ℕ} → Routes contacts m ranges n ask before r₁ after₁
       → Routes contacts m ranges n ask before r₂ after₂ → (r₁ ≡ r₂) × (after₁ ≡ after₂)
   routes_determined (short_chain h) (short_chain h') = (refl, refl)
   routes_determined (short_chain h) (no_plan l f) = absurd (omega arith)
@@ -142,11 +141,11 @@ module _ {contacts : List ℕ} {m : ℕ} {ranges : List ℕ} {n : ℕ} {ask : As
   routes_determined (routed l p g d r) (same_node l' p' g' s) = absurd (d s)
   routes_determined (routed l p g d r) (routed l' p' g' d' r') = routes_plan_determined r r'
 
-  pub routes_walks : {f : Figures} {k : ℕ} {after : List ℕ} → Routes contacts m ranges n ask before (Best f k) after
+  pub routes_walks : {f : Figures} {k : ℕ} {after : List ℕ} → Routes contacts m ranges n ask before (Ok (record { figures = f; count = k })) after
       → Walks contacts m ranges n ask (take k after) (Ok f)
   routes_walks (routed l p g d r) = walked p g d (route_walks r)
 
-  pub routes_short : {f : Figures} {k : ℕ} {after : List ℕ} → Routes contacts m ranges n ask before (Best f k) after → k ≤ most_chain
+  pub routes_short : {f : Figures} {k : ℕ} {after : List ℕ} → Routes contacts m ranges n ask before (Ok (record { figures = f; count = k })) after → k ≤ most_chain
   routes_short (routed l p g d r) = route_short (service_sound _ p.valid unused) g d r
 
 module _ (p : Service) (ask : Ask) (before : List ℕ) (valid : Sound p) (good : GoodAsk ask) (differ : ask.source.0 ≡ ask.destination.0 → ⊥) where
@@ -166,8 +165,8 @@ module _ (p : Service) (ask : Ask) (before : List ℕ) (valid : Sound p) (good :
       (is_best_best p valid ask good differ _ r).1
       (chosen_best (network_of p ask) (network_laws p valid ask good) (goal ask) r (goal_node p ask good) (goal_apart p ask good differ) e)
 
-  routes_at : (r : ℕ) → delivery (network_of p ask) (goal ask) ≡ at r → (early : Bool) → Verdict (r < ask.deadline.0) early → (found : Found)
-      → found ≡ pick_found early (Chain (record { 0 = r }) (length (chain_of p ask r))) (Nothing TooLate)
+  routes_at : (r : ℕ) → delivery (network_of p ask) (goal ask) ≡ at r → (early : Bool) → Verdict (r < ask.deadline.0) early → (found : Result Found Refusal)
+      → found ≡ cond early (Ok (record { delivered = record { 0 = r }; count = length (chain_of p ask r) })) (Err TooLate)
       → RoutesPlan p ask before (answer_of p ask found) (chain_after p ask before found)
   unfolding answer_of chain_after figures_of
   routes_at r e _ (holds h) found ef = let b = chosen_is_best r e in rw ef (best b (figures_in_time (chain_of p ask r) r b.allowed h))

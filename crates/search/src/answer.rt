@@ -1,17 +1,17 @@
 // What `route` answers, and what is found before the figures are worked out.
-use units::{Millis, Refusal};
+use units::Millis;
 use walk::Figures;
 
-// The best chain's figures and how many contacts it has, or why there is none.
+// The best chain's figures and how many contacts it has.
 #[derive(Clone, Copy)]
-pub enum Routed {
-    Best(Figures, usize),
-    Refused(Refusal),
+pub struct Best {
+    pub figures: Figures,
+    pub count: usize,
 }
 
-// When the best chain delivers the file and how many contacts it has, or why there is none.
+// When the best chain delivers the file and how many contacts it has.
 #[derive(Clone, Copy)]
-pub enum Found {
-    Chain(Millis, usize),
-    Nothing(Refusal),
+pub struct Found {
+    pub delivered: Millis,
+    pub count: usize,
 }

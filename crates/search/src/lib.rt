@@ -7,6 +7,6 @@ mod answer;
 mod finding;
 mod routing;
 
-pub use answer::{Found, Routed};
+pub use answer::{Best, Found};
 pub use finding::find_chain;
-pub use routing::{answer_found, route};
+pub use routing::{route, route_served};

@@ -2,7 +2,7 @@
 --     Working           k contacts are still to be chosen before those that stand in the chain
 --     working_begins, working_goes, working_ends
 --     working_leads     the contact chosen next leads; lead_named, lead_back: so it is a contact of the plan, and no barred one
---     found_leads, found_goes      the same of the contact that the code found in its words
+--     one_leads, found_leads, found_goes      the same of the contact that the code found in its words
 -- Assumes nothing.
 use mathlib.Core.Bool.{Bool, true, false}
 use mathlib.Core.List.{List, ◌∷◌, ◌++◌}
@@ -109,6 +109,13 @@ module _ (p : Service) (ask : Ask) (before : List When) (v limit c : ℕ) (leads
       go : (b : Bool) → is_barred ask (contact_of p c) ≡ b → limit_over p ask.size c limit ≡ (network_of p ask).back c limit
       go true e = absurd (barred_never (get_or before ((network_of p ask).from c) never) e leads.in_time)
       go false e = rw e
+
+-- some contact leads, in the words as in the network's layers
+pub one_leads : (p : Service) (ask : Ask) → Laws (network_of p ask) → (entry chain words : List ℕ) (count g r k v limit : ℕ) → 0 < k
+    → Working (network_of p ask) entry chain count g r k v limit → ((j : ℕ) → j ≤ count → layer_of words j ≡ layer (network_of p ask) j)
+    → 1 ≤ lowest (network_of p ask) (layer_of words (k - 1)) v limit
+one_leads p ask L entry chain words count g r k v limit h w rows =
+    rw (rows (k - 1) (omega (arith, w.most))) ((working_leads (network_of p ask) L entry count g r chain k v limit h w).is_contact.least)
 
 -- the contact that the code found, held against the network's layers
 module _ (p : Service) (ask : Ask) (L : Laws (network_of p ask)) (entry chain words : List ℕ) (count g r k v limit c : ℕ) (h : 0 < k)

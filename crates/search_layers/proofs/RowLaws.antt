@@ -1,24 +1,30 @@
 -- Laws of the words that hold the layers.
 --     when_time, when_never      what a word says
+--     time_when, time_some, time_none, time_good      the same as a time or none
 --     when_lower, when_not_later      the lower of two words, and of two words in order
 --     length_row, get_d_row, row_set, row_set_other      a row, and a store in a row
 --     get_d_layer, layer_set, time_set      the same of the layer that a row holds
 -- Assumes nothing.
 use mathlib.Core.List.{List, [], ◌∷◌, map}
-use mathlib.Core.Logic.{⊎_elim}
+use mathlib.Core.Bool.{Bool, true, false, cond}
+use mathlib.Core.Logic.{inl, inr, ⊎_elim}
 use mathlib.Core.Path.{◌≡◌, refl, sym, ap, ◌∙◌, subst}
 use Prim.Native.Nat.{ℕ, zero, suc, ◌+◌, ◌-◌, ◌*◌, ◌≤◌, ◌<◌, zero-le, suc-le-suc, min}
 use native.Mathlib.Nat.{not-suc-le-zero, le_of_suc-le-suc, mul-le-mul_right}
 use native.Mathlib.Decide.{dec_le}
 use native.Mathlib.Omega.{arith}
-use borrow.Author.Tests.{eq-eqb, ne_eqb}
+use borrow.Author.Tests.{eq-eqb, ne_eqb, eqb-true}
 use lib.ListN.{length, get_or, set, take, drop, length-take, length-drop, get_or-map, length-map}
 use lib.Seq.{get_or-take, get_or-drop, take-set-lt, take-set-le, drop-set-add, drop-set-lt}
+use Rattle.std.specs.Prelude.{Option, Some, None}
+use lib.Dec.{eqb}
+use Rattle.units.specs.declared.Millis.{Millis}
 use Rattle.units.specs.Limits.{last_time, most_light, most_nodes}
 use Rattle.plan.specs.Plan.{Each}
 use Rattle.network.specs.Model.{earlier}
 use Rattle.network.specs.Network.{at, never, NotLater, both, last}
-use Rattle.search_layers.specs.Words.{never_word, when_word, TimeWord, row_of, layer_of}
+use Rattle.search_layers.specs.Bridge.{when_of}
+use Rattle.search_layers.specs.Words.{never_word, when_word, time_word, TimeWord, TimeGood, row_of, layer_of}
 
 pub when_never : (w : ℕ) → w ≡ never_word → when_word w ≡ never
 unfolding when_word
@@ -31,6 +37,43 @@ when_below w h = rw (ne_eqb w never_word (λ e. absurd (omega arith)))
 pub when_time : (w : ℕ) → w ≤ last_time + most_light → when_word w ≡ at w
 unfolding last_time most_light never_word
 when_time w h = when_below w (omega arith)
+
+-- a word says the same as the time that it says, or none
+pub time_when : (w : ℕ) → when_of (time_word w) ≡ when_word w
+unfolding when_word time_word
+time_when w = go (eqb w never_word)
+  where
+    go : (b : Bool) → when_of (cond b None (Some (record { 0 = w }))) ≡ cond b never (at w)
+    go true = refl
+    go false = refl
+
+pub time_none : (w : ℕ) → w ≡ never_word → None ≡ time_word w
+unfolding time_word
+time_none w e = rw (eq-eqb w never_word e)
+
+pub time_some : (w : ℕ) → (w ≡ never_word → ⊥) → Some (record { 0 = w }) ≡ time_word w
+unfolding time_word
+time_some w some = rw (ne_eqb w never_word some)
+
+-- the word of a time
+pub time_is : (w : ℕ) (t : Millis) → Some t ≡ time_word w → w ≡ t.0
+unfolding time_word
+time_is w t e = go (eqb w never_word) e
+  where
+    go : (b : Bool) → Some t ≡ cond b None (Some (record { 0 = w })) → w ≡ t.0
+    go true h = let z : ◌≡◌ {A = ℕ} 0 1 = cc in absurd (omega arith)
+    go false h = cc
+
+pub never_is : (w : ℕ) → None ≡ time_word w → w ≡ never_word
+unfolding time_word
+never_is w e = go (eqb w never_word) refl e
+  where
+    go : (b : Bool) → eqb w never_word ≡ b → ◌≡◌ {A = Option Millis} None (cond b None (Some (record { 0 = w }))) → w ≡ never_word
+    go true q h = eqb-true w never_word q
+    go false q h = let z : ◌≡◌ {A = ℕ} 0 1 = cc in absurd (omega arith)
+
+pub word_good : (w : ℕ) → TimeWord w → (w ≡ never_word → ⊥) → w ≤ last_time + most_light
+word_good w t some = ⊎_elim (λ h. h) (λ e. absurd (some e)) t
 
 -- the lower of two words says the earlier of the two
 pub when_lower : (a b : ℕ) → a < b → b ≤ never_word → earlier (when_word b) (when_word a) ≡ when_word a
@@ -51,6 +94,10 @@ when_not_later a b h most = go (dec_le never_word b)
     go : Dec (never_word ≤ b) → NotLater (when_word a) (when_word b)
     go (yes l) = let e : b ≡ never_word = omega arith in rw (when_never b e) last
     go (no l) = rw (when_below a (omega arith), when_below b (omega arith)) (both h)
+
+pub time_below : (w : ℕ) → w ≤ last_time + most_light → w ≤ never_word
+unfolding last_time most_light never_word
+time_below w h = omega arith
 
 pub time_most : (w : ℕ) → TimeWord w → w ≤ never_word
 unfolding last_time most_light never_word
@@ -75,6 +122,17 @@ row_inside k words h = omega arith
 pub length_row : (words : List ℕ) (k : ℕ) → (k + 1) * most_nodes ≤ length words → length (row_of words k) ≡ most_nodes
 unfolding row_of
 length_row words k h = omega (arith, row_inside k words h, length-take most_nodes (drop (k * most_nodes) words), length-drop (k * most_nodes) words)
+
+-- a row has no more words than there are nodes, and rows of as many words are as long
+pub row_most : (words : List ℕ) (k : ℕ) → length (row_of words k) ≤ most_nodes
+unfolding row_of
+row_most words k = omega (arith, length-take most_nodes (drop (k * most_nodes) words))
+
+pub row_long : (words entry : List ℕ) (k : ℕ) → length words ≡ length entry → length (row_of words k) ≡ length (row_of entry k)
+unfolding row_of
+row_long words entry k same =
+    omega (arith, same, length-take most_nodes (drop (k * most_nodes) words), length-drop (k * most_nodes) words, length-take most_nodes (drop (k * most_nodes) entry),
+      length-drop (k * most_nodes) entry)
 
 pub get_d_row : (words : List ℕ) (k v d : ℕ) → v < most_nodes → get_or (row_of words k) v d ≡ get_or words (k * most_nodes + v) d
 unfolding row_of

@@ -1,2 +1,5 @@
 pub mod Bridge
+pub mod Held
+pub mod Layered
+pub mod WordProps
 pub mod Words

@@ -3,10 +3,12 @@
 
 #![tactic(auto)]
 
+mod contact_network;
 mod filling;
 mod rows;
 mod trying;
 
+pub use contact_network::ContactNetwork;
 pub use filling::fill;
-pub use rows::{NEVER, get};
+pub use rows::{Layers, NEVER};
 pub use trying::arrive;

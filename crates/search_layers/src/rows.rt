@@ -1,48 +1,74 @@
-// The words of the layers: a row of words a layer, a word a node. `get` and `put` alone know that node n
-// stands at word n - 1 of a row.
-ghost use Rattle.std.specs.Prelude.{◌≡◌, ◌+◌, ◌-◌, ◌*◌, ◌≤◌, length, get_or, set};
-ghost use Rattle.units.specs.Limits.{most_nodes, IsNode};
+// The words of the layers: a row of words a layer, a word a node. `word`, `put` and `copy_row` alone know
+// where the row of a layer stands, and that node n stands at word n - 1 of it.
+ghost use Rattle.std.specs.Prelude.{◌≡◌, ◌*◌, length};
+ghost use Rattle.units.specs.Limits.{most_nodes};
 ghost use Rattle.plan.specs.Plan.{Each};
-ghost use Rattle.search_layers.specs.Words.{TimeWord, row_of, layer_of, Layered};
+ghost use Rattle.plan.specs.Props.{each_prop};
+ghost use Rattle.search_layers.specs.Words.{TimeWord};
+ghost use Rattle.search_layers.specs.WordProps.{is_time_word_prop};
 
-use units::{MOST_NODES, Millis, NodeNo};
+use units::{Millis, NodeNo};
 
 // The nodes of a row.
 pub const NODES: usize = 64;
 
-// Never as a word. Its bytes are not all the same, so that an array of it is filled word by word and not
-// byte by byte.
+// Never as a word, later than every time. Its bytes are not all the same, so that an array of it is filled
+// word by word and not byte by byte.
 pub const NEVER: u64 = 18_446_744_073_709_551_614;
 
-// When the file is at the node at the earliest, as row k has it.
-pub fn get(words: &[u64], k: usize, node: NodeNo) -> Millis
-    requires { ((k + 1) * most_nodes ≤ length words.now) × IsNode node }
-    ensures { result.0 ≡ get_or (row_of words.now k) (node.0 - 1) 0 }
-{
-    let v = (node.0 - 1) as usize;
-    Millis(words[k * NODES + v])
+// 64 layers of 64 nodes. A word is a time, or NEVER and not an Option, for fixed memory: an Option is twice
+// as long as its time.
+#[derive(Drop)]
+pub struct Layers {
+    pub words: [u64; 4096],
+    pub ghost full: { length words ≡ most_nodes * most_nodes },
+    pub ghost timed: { Each TimeWord words } by { each_prop _ is_time_word_prop _ },
 }
 
-// Stores that time for the node in row k.
-pub fn put(words: &mut [u64], k: usize, node: NodeNo, time: Millis)
-    requires { ((k + 1) * most_nodes ≤ length words.old) × IsNode node }
-    ensures { words.new ≡ set words.old (k * most_nodes + (node.0 - 1)) time.0 }
-{
-    let v = (node.0 - 1) as usize;
-    words[k * NODES + v] = time.0;
-}
+impl Layers {
+    ghost use Rattle.std.specs.Prelude.{◌+◌, ◌-◌, ◌≤◌, ◌<◌, get_or, set};
+    ghost use Rattle.units.specs.Limits.{last_time, most_light, IsNode};
+    ghost use Rattle.search_layers.specs.Layered.{Layered};
+    ghost use Rattle.search_layers.specs.Words.{TimeGood, time_word, row_of, layer_of};
 
-// Row k copied into row k + 1.
-pub fn copy_row(words: &mut [u64], k: usize)
-    requires { Each TimeWord words.old × ((k + 2) * most_nodes ≤ length words.old) }
-    ensures { Layered words.old words.new k (layer_of words.old k) }
-{
-    let next = k + 1;
-    let mut copied: u64 = 0;
-    while copied < MOST_NODES {
-        copied += 1;
-        let node = NodeNo(copied);
-        let time = get(words, k, node);
-        put(words, next, node, time);
+    // The word of the node in row k.
+    pub fn word(&self, k: usize, node: NodeNo) -> u64
+        requires { (k < most_nodes) × IsNode node }
+        ensures { result ≡ get_or (row_of self.now.words k) (node.0 - 1) 0 }
+    {
+        let v = (node.0 - 1) as usize;
+        self.words[k * NODES + v]
+    }
+
+    // When the file is at the node at the earliest, as row k has it.
+    pub fn get(&self, k: usize, node: NodeNo) -> Option<Millis>
+        requires { (k < most_nodes) × IsNode node }
+        ensures time { result ≡ time_word (get_or (row_of self.now.words k) (node.0 - 1) 0) }
+        ensures good { TimeGood result }
+    {
+        let word = self.word(k, node);
+        if word == NEVER {
+            None
+        } else {
+            Some(Millis(word))
+        }
+    }
+
+    // Stores that time for the node in row k.
+    pub(crate) fn put(&mut self, k: usize, node: NodeNo, time: Millis)
+        requires { (k < most_nodes) × IsNode node × (time.0 ≤ last_time + most_light) }
+        ensures { self.new.words ≡ set self.old.words (k * most_nodes + (node.0 - 1)) time.0 }
+    {
+        let v = (node.0 - 1) as usize;
+        self.words[k * NODES + v] = time.0;
+    }
+
+    // Row k copied into row k + 1.
+    pub(crate) fn copy_row(&mut self, k: usize)
+        requires { k + 1 < most_nodes }
+        ensures { Layered self.old self.new k (layer_of self.old.words k) }
+    {
+        let next = (k + 1) * NODES;
+        self.words.copy_within(k * NODES..next, next);
     }
 }

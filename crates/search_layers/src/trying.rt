@@ -1,209 +1,127 @@
 // How contacts are tried in a layer: when the file is ready behind a contact, then one contact tried, those
-// from a node along their list, and those from every node. They are tried out of row k of the lent words,
-// which is layer k, into row k + 1.
-ghost use Rattle.std.specs.Prelude.{true, false, ◌||◌, ◌≡◌, ℕ, ◌+◌, ◌-◌, ◌*◌, ◌≤◌, eqb, length, get_or};
-ghost use Rattle.units.specs.Limits.{most_nodes, IsNode};
-ghost use Rattle.plan.specs.Plan.{Each, GoodContact};
+// from a node along their list, and those from every node. They are tried out of row k of the layers, which
+// is layer k, into row k + 1.
+ghost use Rattle.std.specs.Prelude.{true, false, ◌≡◌, ℕ, ◌+◌, ◌-◌, ◌≤◌, ◌<◌, get_or};
+ghost use Rattle.units.specs.Limits.{last_time, most_light, most_nodes, IsNode};
+ghost use Rattle.service.specs.Held.{service_in};
 ghost use Rattle.service.specs.Service.{InPlan};
-ghost use Rattle.service.specs.Tables.{served, IsService};
-ghost use Rattle.timing.specs.Hop.{is_barred};
-ghost use Rattle.units.specs.Asks.{GoodAsk};
 ghost use Rattle.network.specs.Model.{behind, relax, relaxed};
 ghost use Rattle.network.specs.Network.{never, NotLater};
-ghost use Rattle.search_layers.specs.Bridge.{network_of};
-ghost use Rattle.search_layers.specs.Words.{never_word, when_word, TimeWord, row_of, layer_of, Layered, Listed, Tried, Older, LateBy};
+ghost use Rattle.search_layers.specs.Bridge.{when_of, network_of};
+ghost use Rattle.search_layers.specs.Held.{network_in};
+ghost use Rattle.search_layers.specs.Layered.{Layered, Tried, Older};
+ghost use Rattle.search_layers.specs.Words.{TimeGood, row_of, layer_of, LateBy};
 
-use crate::rows::{NEVER, get, put};
-use plan::{Contact, contact_numbered};
+use crate::contact_network::ContactNetwork;
+use crate::rows::Layers;
+use plan::Contact;
 use plan_lists::{first_from, next_of};
+use service::ServedPlan;
 use timing::{is_barred, over};
-use units::{Ask, ContactNo, MOST_NODES, Millis, NodeNo};
+use units::{CheckedAsk, ContactNo, MOST_NODES, Millis, NodeNo};
 
-// Whether nothing comes over the contact, whatever it offers: the file is never ready before it, or it goes
-// from the source to an excluded neighbour.
-fn is_shut(ask: Ask, pass: Contact, ready: Millis) -> bool
-    requires { GoodContact pass }
-    ensures { result ≡ (eqb ready.0 never_word || is_barred ask pass) }
-{
-    (ready.0 == NEVER) | is_barred(ask, pass)
-}
-
-// When the file is ready behind the contact, from when it is ready before it.
+// When the file is ready behind the contact, from when it is ready before it: never where that is never, or
+// the contact goes from the source to an excluded neighbour.
 pub fn arrive(
-    contacts: &[u64],
-    contact_count: usize,
-    lights: &[u32],
-    lefts: &[u64],
-    ask: Ask,
+    service: &ServedPlan,
+    ask: CheckedAsk,
     no: ContactNo,
-    ready: Millis,
-) -> Millis
-    requires { IsService contacts.now contact_count lights.now lefts.now × GoodAsk ask × InPlan (served contacts.now contact_count lights.now lefts.now) no.0 × TimeWord ready.0 }
-    ensures { (when_word result.0 ≡ behind (network_of (served contacts.now contact_count lights.now lefts.now) ask) no.0 (when_word ready.0)) × TimeWord result.0 }
+    ready: Option<Millis>,
+) -> Option<Millis>
+    requires { InPlan (service_in service.now) no.0 × TimeGood ready }
+    ensures time { when_of result ≡ behind (network_of (service_in service.now) ask.asked) no.0 (when_of ready) }
+    ensures good { TimeGood result }
 {
-    let pass = contact_numbered(contacts, no);
-    if is_shut(ask, pass, ready) {
-        return Millis(NEVER);
+    let time = ready?;
+    if is_barred(ask.asked, service.contact(no)) {
+        return None;
     }
-    let arrival = over(contacts, contact_count, lights, lefts, ask, no, ready);
-    match arrival {
-        Some(t) => t,
-        None => Millis(NEVER),
-    }
+    over(service, ask, no, time)
 }
 
-// Whether the times alone show that the contact brings the file no earlier than `there`: it is ready
-// before the contact no earlier than that, or only after the contact's end, or the contact starts no
+// Whether the times alone show that the contact brings the file no earlier than the word `there` says: it is
+// ready before the contact no earlier than that, or only after the contact's end, or the contact starts no
 // earlier than that.
-fn is_late(pass: Contact, ready: Millis, there: Millis) -> bool
-    ensures { result ≡ true → LateBy pass ready.0 there.0 }
+fn is_late(pass: Contact, ready: Millis, there: u64) -> bool
+    ensures { result ≡ true → LateBy pass ready.0 there }
 {
-    if there.0 <= ready.0 {
+    if there <= ready.0 {
         return true;
     }
-    if pass.end.0 < ready.0 {
+    if pass.end < ready {
         return true;
     }
-    there.0 <= pass.start.0
+    there <= pass.start.0
 }
 
 // One contact tried: the node that it is to may be reached earlier by it, in row k + 1, where `ready` is when
 // the file is at the node that it is from, as row k has it.
-fn try_contact(
-    contacts: &[u64],
-    contact_count: usize,
-    lights: &[u32],
-    lefts: &[u64],
-    ask: Ask,
-    words: &mut [u64],
-    k: usize,
-    no: ContactNo,
-    ready: Millis,
-)
-    requires { IsService contacts.now contact_count lights.now lefts.now × GoodAsk ask × InPlan (served contacts.now contact_count lights.now lefts.now) no.0 × Each TimeWord words.old × ((k + 2) * most_nodes ≤ length words.old) × (ready.0 ≡ get_or (row_of words.old k) ((network_of (served contacts.now contact_count lights.now lefts.now) ask).from no.0) 0) }
-    ensures { Layered words.old words.new k (relax (network_of (served contacts.now contact_count lights.now lefts.now) ask) (layer_of words.old k) no.0 (layer_of words.old (k + 1))) }
+fn try_contact(net: &ContactNetwork, layers: &mut Layers, k: usize, no: ContactNo, ready: Millis)
+    requires { (k + 1 < most_nodes) × InPlan (service_in net.now.service) no.0 × (ready.0 ≡ get_or (row_of layers.old.words k) ((network_in net.now).from no.0) 0) × (ready.0 ≤ last_time + most_light) }
+    ensures { Layered layers.old layers.new k (relax (network_in net.now) (layer_of layers.old.words k) no.0 (layer_of layers.old.words (k + 1))) }
 {
-    let pass = contact_numbered(contacts, no);
-    let to = pass.to;
-    let next = k + 1;
-    let there = get(words, next, to);
+    let pass = net.service.contact(no);
+    let there = layers.word(k + 1, pass.to);
     if is_late(pass, ready, there) {
         return;
     }
-    let arrival = arrive(contacts, contact_count, lights, lefts, ask, no, ready);
-    if arrival.0 < there.0 {
-        put(words, next, to, arrival);
+    if let Some(arrival) = arrive(&net.service, net.ask, no, Some(ready)) {
+        if arrival.0 < there {
+            layers.put(k + 1, pass.to, arrival);
+        }
     }
 }
 
-// The contacts from the node tried, along their list.
-fn try_from(
-    contacts: &[u64],
-    contact_count: usize,
-    lights: &[u32],
-    lefts: &[u64],
-    ask: Ask,
-    words: &mut [u64],
-    k: usize,
-    heads: &[u16],
-    nexts: &[u16],
-    node: NodeNo,
-)
-    requires { IsService contacts.now contact_count lights.now lefts.now × GoodAsk ask × Each TimeWord words.old × ((k + 2) * most_nodes ≤ length words.old) × Listed contacts.now contact_count heads.now nexts.now × IsNode node }
-    ensures { Tried (network_of (served contacts.now contact_count lights.now lefts.now) ask) words.old words.new k (λ c. (network_of (served contacts.now contact_count lights.now lefts.now) ask).from c ≡ node.0 - 1) }
+// The contacts from the node tried, along their list: none where the file is never at the node.
+fn try_from(net: &ContactNetwork, layers: &mut Layers, k: usize, node: NodeNo)
+    requires { (k + 1 < most_nodes) × IsNode node }
+    ensures { Tried (network_in net.now) layers.old layers.new k (λ c. (network_in net.now).from c ≡ node.0 - 1) }
 {
-    let ready = get(words, k, node);
-    let mut i = first_from(heads, node);
-    while i < contact_count {
-        let number = i + 1;
-        let no = ContactNo(number as u64);
-        try_contact(
-            contacts,
-            contact_count,
-            lights,
-            lefts,
-            ask,
-            words,
-            k,
-            no,
-            ready,
-        );
-        i = next_of(nexts, i);
+    let Some(ready) = layers.get(k, node) else {
+        return;
+    };
+    let mut i = first_from(net.heads, node);
+    while i < net.service.contact_count {
+        let no = ContactNo(i as u64 + 1);
+        try_contact(net, layers, k, no, ready);
+        i = next_of(net.nexts, i);
     }
 }
 
 // The same. They are looked at no further if the node has in row k the word that it has in row `old`: they
 // were tried from there before, or there was nothing to try. Answers whether the two words differ.
 fn try_changed(
-    contacts: &[u64],
-    contact_count: usize,
-    lights: &[u32],
-    lefts: &[u64],
-    ask: Ask,
-    words: &mut [u64],
+    net: &ContactNetwork,
+    layers: &mut Layers,
     old: usize,
     k: usize,
-    heads: &[u16],
-    nexts: &[u16],
     node: NodeNo,
 ) -> bool
-    requires service { IsService contacts.now contact_count lights.now lefts.now × GoodAsk ask × Each TimeWord words.old × ((k + 2) * most_nodes ≤ length words.old) × Listed contacts.now contact_count heads.now nexts.now × IsNode node }
-    requires older { Older (network_of (served contacts.now contact_count lights.now lefts.now) ask) words.old old k × ((u : ℕ) → NotLater (get_or (layer_of words.old (k + 1)) u never) (get_or (layer_of words.old k) u never)) }
-    ensures { Tried (network_of (served contacts.now contact_count lights.now lefts.now) ask) words.old words.new k (λ c. (network_of (served contacts.now contact_count lights.now lefts.now) ask).from c ≡ node.0 - 1) × (result ≡ false → words.new ≡ words.old) }
+    requires inside { (k + 1 < most_nodes) × IsNode node }
+    requires older { Older (network_in net.now) layers.old old k }
+    requires lower { (u : ℕ) → NotLater (get_or (layer_of layers.old.words (k + 1)) u never) (get_or (layer_of layers.old.words k) u never) }
+    ensures tried { Tried (network_in net.now) layers.old layers.new k (λ c. (network_in net.now).from c ≡ node.0 - 1) }
+    ensures same { result ≡ false → layers.new.words ≡ layers.old.words }
 {
-    if get(words, old, node).0 == get(words, k, node).0 {
+    if layers.word(old, node) == layers.word(k, node) {
         return false;
     }
-    try_from(
-        contacts,
-        contact_count,
-        lights,
-        lefts,
-        ask,
-        words,
-        k,
-        heads,
-        nexts,
-        node,
-    );
+    try_from(net, layers, k, node);
     true
 }
 
 // The contacts from every node tried, one node after the other. Answers whether no node's words differed:
 // then nothing was tried.
-pub fn try_all(
-    contacts: &[u64],
-    contact_count: usize,
-    lights: &[u32],
-    lefts: &[u64],
-    ask: Ask,
-    words: &mut [u64],
-    old: usize,
-    k: usize,
-    heads: &[u16],
-    nexts: &[u16],
-) -> bool
-    requires { IsService contacts.now contact_count lights.now lefts.now × GoodAsk ask × Each TimeWord words.old × ((k + 2) * most_nodes ≤ length words.old) × (layer_of words.old (k + 1) ≡ layer_of words.old k) × Older (network_of (served contacts.now contact_count lights.now lefts.now) ask) words.old old k × Listed contacts.now contact_count heads.now nexts.now }
-    ensures { Layered words.old words.new k (relaxed (network_of (served contacts.now contact_count lights.now lefts.now) ask) (layer_of words.old k) contact_count) × (result ≡ true → words.new ≡ words.old) }
+pub fn try_all(net: &ContactNetwork, layers: &mut Layers, old: usize, k: usize) -> bool
+    requires inside { k + 1 < most_nodes }
+    requires older { Older (network_in net.now) layers.old old k }
+    requires copied { layer_of layers.old.words (k + 1) ≡ layer_of layers.old.words k }
+    ensures row { Layered layers.old layers.new k (relaxed (network_in net.now) (layer_of layers.old.words k) (network_in net.now).contacts) }
+    ensures same { result ≡ true → layers.new.words ≡ layers.old.words }
 {
     let mut same = true;
-    let mut tried: u64 = 0;
-    while tried < MOST_NODES {
-        tried += 1;
-        let changed = try_changed(
-            contacts,
-            contact_count,
-            lights,
-            lefts,
-            ask,
-            words,
-            old,
-            k,
-            heads,
-            nexts,
-            NodeNo(tried),
-        );
-        if changed {
+    for v in 0..MOST_NODES {
+        if try_changed(net, layers, old, k, NodeNo(v + 1)) {
             same = false;
         }
     }

@@ -1,9 +1,81 @@
 -- `search::finding::find_chain` meets its contract.
 -- Assumes nothing.
-use Rattle.search_layers.proofs.FillCode.{blank_is}
+use mathlib.Core.Path.{◌≡◌, refl, sym, ◌∙◌, subst}
+use Prim.Native.Nat.{◌≤◌, ◌<◌}
+use native.Mathlib.Nat.{le_refl, le_trans}
+use native.Mathlib.Omega.{arith}
+use Rattle.std.proofs.Common.{rules}
+use Rattle.units.specs.Limits.{most_nodes}
+use Rattle.plan.specs.Plan.{Each}
+use Rattle.search_layers.specs.Words.{TimeWord, TimeGood}
+use Rattle.search_layers.proofs.FillCode.{blank_is, blank_timed}
+use Rattle.search_layers.proofs.RowLaws.{time_is, never_is}
+use Rattle.search.proofs.FindCode.{delivered_at, count_is, count_room, find_none, find_late, find_best}
 use Rattle.search.proofs.finding.find_chain.Goals as goal
 
-pub find_in-requires : goal.find_in-requires
-find_in-requires c =
-    let pre = c.requires in
-    (pre.0, pre.1, pre.2, blank_is, pre.3)
+pub invariant_of-layers : goal.invariant_of-layers
+unfolding most_nodes
+invariant_of-layers c = record { full = refl; timed = subst (Each TimeWord) (sym blank_is) blank_timed }
+
+pub fill-last-requires : goal.fill-last-requires
+fill-last-requires c = blank_is
+
+pub returns-in_default-clause-found : goal.returns-in_default-clause-found
+returns-in_default-clause-found c =
+    (find_none _ _ c.args.ask.good c.fill-last.new.layers _ c.fill-last.ensures _ refl c.args.chain.now (never_is _ (sym c.in_default.is ∙ c.get.ensures.time))).0
+
+pub returns-in_default-clause-chain : goal.returns-in_default-clause-chain
+returns-in_default-clause-chain c =
+    (find_none _ _ c.args.ask.good c.fill-last.new.layers _ c.fill-last.ensures _ refl c.args.chain.now (never_is _ (sym c.in_default.is ∙ c.get.ensures.time))).1
+
+pub returns-then-le-clause-found : goal.returns-then-le-clause-found
+returns-then-le-clause-found c =
+    let word = sym (time_is _ _ (sym c.in-Some.is ∙ c.get.ensures.time)) in
+    let bound = subst TimeGood c.in-Some.is c.get.ensures.good in
+    let late : c.args.ask.asked.deadline.0 ≤ c.in-Some.delivered.0 = search (rules, c.if-le.ensures) in
+    (find_late _ _ c.args.ask.good c.fill-last.new.layers _ c.fill-last.ensures _ word bound c.args.chain.now late).0
+
+pub returns-then-le-clause-chain : goal.returns-then-le-clause-chain
+returns-then-le-clause-chain c =
+    let word = sym (time_is _ _ (sym c.in-Some.is ∙ c.get.ensures.time)) in
+    let bound = subst TimeGood c.in-Some.is c.get.ensures.good in
+    let late : c.args.ask.asked.deadline.0 ≤ c.in-Some.delivered.0 = search (rules, c.if-le.ensures) in
+    (find_late _ _ c.args.ask.good c.fill-last.new.layers _ c.fill-last.ensures _ word bound c.args.chain.now late).1
+
+pub first_row-count-requires : goal.first_row-count-requires
+first_row-count-requires c =
+    (c.fill-last.ensures.most, c.args.ask.good.destination_node, time_is _ _ (sym c.in-Some.is ∙ c.get.ensures.time))
+
+pub choose-requires-clause-room : goal.choose-requires-clause-room
+choose-requires-clause-room c =
+    let word = sym (time_is _ _ (sym c.in-Some.is ∙ c.get.ensures.time)) in
+    let bound = subst TimeGood c.in-Some.is c.get.ensures.good in
+    let first = c.first_row-count.ensures in
+    let filled = c.fill-last.ensures in
+    (omega (arith, first.most, filled.most), le_trans (count_room _ _ c.args.ask.good c.fill-last.new.layers _ filled _ word bound _ first) c.requires)
+
+pub choose-requires-clause-delivered : goal.choose-requires-clause-delivered
+choose-requires-clause-delivered c =
+    let word = sym (time_is _ _ (sym c.in-Some.is ∙ c.get.ensures.time)) in
+    let bound = subst TimeGood c.in-Some.is c.get.ensures.good in
+    (delivered_at _ _ c.args.ask.good c.fill-last.new.layers _ c.fill-last.ensures _ word bound, bound)
+
+pub choose-requires-clause-fewest : goal.choose-requires-clause-fewest
+choose-requires-clause-fewest c =
+    let word = sym (time_is _ _ (sym c.in-Some.is ∙ c.get.ensures.time)) in
+    let bound = subst TimeGood c.in-Some.is c.get.ensures.good in
+    count_is _ _ c.args.ask.good c.fill-last.new.layers _ c.fill-last.ensures _ word bound _ c.first_row-count.ensures
+
+pub returns-clause-found : goal.returns-clause-found
+returns-clause-found c =
+    let word = sym (time_is _ _ (sym c.in-Some.is ∙ c.get.ensures.time)) in
+    let bound = subst TimeGood c.in-Some.is c.get.ensures.good in
+    let early : c.in-Some.delivered.0 < c.args.ask.asked.deadline.0 = search (rules, c.if-le.ensures) in
+    (find_best _ _ c.args.ask.good c.fill-last.new.layers _ c.fill-last.ensures _ word bound _ c.first_row-count.ensures _ _ early c.choose.ensures).0
+
+pub returns-clause-chain : goal.returns-clause-chain
+returns-clause-chain c =
+    let word = sym (time_is _ _ (sym c.in-Some.is ∙ c.get.ensures.time)) in
+    let bound = subst TimeGood c.in-Some.is c.get.ensures.good in
+    let early : c.in-Some.delivered.0 < c.args.ask.asked.deadline.0 = search (rules, c.if-le.ensures) in
+    (find_best _ _ c.args.ask.good c.fill-last.new.layers _ c.fill-last.ensures _ word bound _ c.first_row-count.ensures _ _ early c.choose.ensures).1

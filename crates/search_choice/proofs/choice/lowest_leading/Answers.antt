@@ -2,31 +2,26 @@
 -- Assumes nothing.
 use mathlib.Core.Path.{sym, ◌∙◌}
 use native.Mathlib.Omega.{arith}
-use Rattle.service.proofs.HeldLaws.{named_in_plan}
+use Rattle.service.proofs.HeldLaws.{held_named}
 use Rattle.search_choice.proofs.ChoiceCode.{lowest_begins, lowest_goes, lowest_stops, lowest_ends}
 use Rattle.search_layers.proofs.FillCode.{contacts_counted}
 use Rattle.search_choice.proofs.choice.lowest_leading.Goals as goal
 
-pub loop-tried-init : goal.loop-tried-init
-loop-tried-init c = (omega arith, lowest_begins _ _ _ _ _ 0 (contacts_counted _ _ _ _ _))
+pub loop-i-init : goal.loop-i-init
+loop-i-init c = lowest_begins _ _ _ _ _ 0 (contacts_counted c.args.service.now c.args.ask.asked)
 
 pub is_leading-requires : goal.is_leading-requires
 is_leading-requires c =
-    let pre = c.requires in
-    (pre.0, pre.1, named_in_plan _ _ _ _ _ (omega arith) (omega (arith, c.loop-tried-test.true)), pre.2, pre.3, pre.4)
+    (held_named c.args.service.now _ (omega arith) (omega (arith, c.loop-i-test.true)), c.requires.inside.0, c.requires.inside.1)
 
 pub returns-then-is_leading : goal.returns-then-is_leading
 returns-then-is_leading c =
-    sym (c.loop-tried.invariant.1 ∙ lowest_stops _ _ _ _ _ _ c.loop-tried-test.true (sym c.is_leading.ensures ∙ c.if-is_leading.true))
+    sym (c.loop-i.invariant ∙ lowest_stops _ _ _ _ _ _ c.loop-i-test.true (sym c.is_leading.ensures ∙ c.if-is_leading.true))
 
-pub loop-tried-smaller : goal.loop-tried-smaller
-loop-tried-smaller c = omega (arith, c.loop-tried-test.true)
+pub loop-i-preserved : goal.loop-i-preserved
+loop-i-preserved c =
+    c.loop-i.invariant ∙ lowest_goes _ _ _ _ _ _ c.loop-i-test.true (sym c.is_leading.ensures ∙ c.if-is_leading.false)
 
-pub loop-tried-preserved : goal.loop-tried-preserved
-loop-tried-preserved c = (
-  omega (arith, c.loop-tried-test.true),
-  c.loop-tried.invariant.1 ∙ lowest_goes _ _ _ _ _ _ c.loop-tried-test.true (sym c.is_leading.ensures ∙ c.if-is_leading.false),
-)
-
-pub returns : goal.returns
-returns c = sym (c.loop-tried.invariant.1 ∙ lowest_ends _ _ _ _ _ _ c.loop-tried-test.false)
+pub unreachable-requires : goal.unreachable-requires
+unreachable-requires c =
+    omega (arith, c.requires.one, c.loop-i.invariant ∙ lowest_ends _ _ _ _ _ _ c.loop-i-test.false)

@@ -1,17 +1,16 @@
 -- `search_layers::filling::next_row` meets its contract.
 -- Assumes nothing.
-use native.Mathlib.Omega.{arith}
 use Rattle.search_layers.proofs.FillCode.{copied_same, next_made, older_kept}
 use Rattle.search_layers.proofs.filling.next_row.Goals as goal
 
-pub try_all-requires : goal.try_all-requires
-try_all-requires c =
-    let pre = c.requires in
-    let copy = c.copy_row.ensures in
-    (pre.0, pre.1, copy.timed, omega (arith, copy.long, pre.3), copied_same _ _ _ copy, older_kept _ _ _ _ _ copy.long copy.kept pre.4, pre.5)
+pub try_all-requires-clause-older : goal.try_all-requires-clause-older
+try_all-requires-clause-older c = older_kept _ _ _ _ _ c.copy_row.ensures.kept c.requires.1
 
-pub returns : goal.returns
-returns c =
-    let tried = c.try_all.ensures in
-    let copy = c.copy_row.ensures in
-    (next_made _ _ _ _ _ _ copy tried.0, λ e. rw (tried.1 e) (copied_same _ _ _ copy))
+pub try_all-requires-clause-copied : goal.try_all-requires-clause-copied
+try_all-requires-clause-copied c = copied_same _ _ _ c.copy_row.ensures
+
+pub returns-clause-row : goal.returns-clause-row
+returns-clause-row c = next_made _ _ _ _ _ c.copy_row.ensures c.try_all.ensures.row
+
+pub returns-clause-same : goal.returns-clause-same
+returns-clause-same c = λ e. rw (c.try_all.ensures.same e) (copied_same _ _ _ c.copy_row.ensures)

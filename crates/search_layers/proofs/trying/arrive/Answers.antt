@@ -1,46 +1,25 @@
 -- `search_layers::trying::arrive` meets its contract.
 -- Assumes nothing.
-use mathlib.Core.Path.{sym, ◌∙◌}
-use native.Mathlib.Omega.{arith}
-use Rattle.service.proofs.HeldLaws.{named_at_most}
-use Rattle.search_layers.specs.Words.{never_word}
-use Rattle.search_layers.proofs.ArriveCode.{open_time, arrive_shut, arrive_ready, arrive_unready}
-use Rattle.search_layers.proofs.ReadCode.{contact_read}
+use mathlib.Core.Path.{refl, sym, ap, ◌∙◌}
+use Rattle.service.proofs.HeldLaws.{held_sound}
+use Rattle.timing.specs.Hop.{is_barred}
+use Rattle.network.specs.Model.{behind}
+use Rattle.search_layers.proofs.ArriveCode.{arrive_barred, arrive_over, arrive_good}
 use Rattle.search_layers.proofs.trying.arrive.Goals as goal
 
-pub contact_numbered-pass-requires : goal.contact_numbered-pass-requires
-contact_numbered-pass-requires c =
-    let pre = c.requires in
-    omega (arith, pre.2.least, named_at_most _ _ _ _ _ pre.2, pre.0.contacts_lent)
+pub returns-in_err-time-clause-time : goal.returns-in_err-time-clause-time
+unfolding behind
+returns-in_err-time-clause-time c = rw (c.from_residual.ensures, c.in_err-time.was) refl
 
-pub is_shut-requires : goal.is_shut-requires
-is_shut-requires c =
-    let pre = c.requires in
-    (contact_read _ _ _ _ _ pre.0 pre.2 _ c.contact_numbered-pass.ensures).good
+pub returns-then-is_barred-clause-time : goal.returns-then-is_barred-clause-time
+returns-then-is_barred-clause-time c =
+    rw c.in_ok-time.was
+    (arrive_barred _ _ _ _ c.requires.0 (ap (is_barred c.args.ask.asked) (sym c.contact.ensures.is) ∙ sym c.is_barred.ensures ∙ c.if-is_barred.true))
 
-pub returns-then-is_shut : goal.returns-then-is_shut
-unfolding never_word
-returns-then-is_shut c =
-    let pre = c.requires in
-    let read = contact_read _ _ _ _ _ pre.0 pre.2 _ c.contact_numbered-pass.ensures in
-    arrive_shut _ _ _ _ pre.2 pre.3 _ read (sym c.is_shut.ensures ∙ c.if-is_shut.true)
+pub returns-clause-time : goal.returns-clause-time
+returns-clause-time c =
+    rw c.in_ok-time.was
+    (arrive_over _ _ _ _ c.requires.0 _ c.over.ensures (ap (is_barred c.args.ask.asked) (sym c.contact.ensures.is) ∙ sym c.is_barred.ensures ∙ c.if-is_barred.false))
 
-pub over-arrival-requires : goal.over-arrival-requires
-over-arrival-requires c =
-    let pre = c.requires in
-    (pre.0, pre.2, pre.1.size_most, open_time _ _ (sym c.is_shut.ensures ∙ c.if-is_shut.false) pre.3)
-
-pub returns-in-Some : goal.returns-in-Some
-returns-in-Some c =
-    let pre = c.requires in
-    let read = contact_read _ _ _ _ _ pre.0 pre.2 _ c.contact_numbered-pass.ensures in
-    let opened = sym c.is_shut.ensures ∙ c.if-is_shut.false in
-    arrive_ready _ _ _ _ pre.2 pre.3 _ read opened _ c.over-arrival.ensures pre.0.sound _ c.in-Some.is
-
-pub returns-in-None : goal.returns-in-None
-unfolding never_word
-returns-in-None c =
-    let pre = c.requires in
-    let read = contact_read _ _ _ _ _ pre.0 pre.2 _ c.contact_numbered-pass.ensures in
-    let opened = sym c.is_shut.ensures ∙ c.if-is_shut.false in
-    arrive_unready _ _ _ _ pre.2 pre.3 _ read opened _ c.over-arrival.ensures c.in-None.is
+pub returns-clause-good : goal.returns-clause-good
+returns-clause-good c = arrive_good _ _ _ _ c.requires.0 (held_sound c.args.service.now) _ c.over.ensures

@@ -1,27 +1,27 @@
--- `search_layers::rows::get` meets its contract.
+-- `search_layers::rows::Layers::word` meets its contract.
 -- Assumes nothing.
 use mathlib.Core.Path.{sym}
 use native.Mathlib.Omega.{arith}
 use Rattle.units.specs.Limits.{most_nodes}
 use Rattle.search_layers.proofs.NetworkLaws.{node_below}
 use Rattle.search_layers.proofs.RowLaws.{get_d_row}
-use Rattle.search_layers.proofs.rows.get.Goals as goal
+use Rattle.search_layers.proofs.rows.Layers.word.Goals as goal
 
 pub overflow_mul-result : goal.overflow_mul-result
 unfolding most_nodes
-overflow_mul-result c = omega (arith, c.requires, c.well_formed)
+overflow_mul-result c = omega (arith, c.requires)
 
 pub overflow_add-result : goal.overflow_add-result
 unfolding most_nodes
-overflow_add-result c = omega (arith, c.requires, c.well_formed)
+overflow_add-result c = omega (arith, c.requires)
 
-pub offset_bounds-words-k : goal.offset_bounds-words-k
+pub offset_bounds-self-k : goal.offset_bounds-self-k
 unfolding most_nodes
-offset_bounds-words-k c = omega (arith, c.requires, c.well_formed)
+offset_bounds-self-k c = omega (arith, c.requires)
 
-pub bounds-words-k : goal.bounds-words-k
+pub bounds-self-k : goal.bounds-self-k
 unfolding most_nodes
-bounds-words-k c = omega (arith, c.requires)
+bounds-self-k c = omega (arith, c.requires)
 
 pub returns : goal.returns
 unfolding most_nodes
