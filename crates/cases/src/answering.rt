@@ -1,132 +1,94 @@
 // The calls, over lent tables and the numbers of a case.
-ghost use Rattle.std.specs.Prelude.{◌≤◌, length};
+ghost use Rattle.std.specs.Prelude.{◌≤◌};
 
-use crate::tables::least;
-use crate::words::{LIGHT, MILLION, PLACES, ROUTE, VALID, WALK};
+use crate::words::Call;
 use crate::{chains, show};
-use plan_valid::is_plan;
-use units::{Ask, ContactNo, MOST_CONTACTS, Millis, NodeNo};
+use desk::ask_of;
+use plan::PlanTables;
+use plan_valid::CheckedPlan;
+use service::{BLANK_LEFT, BLANK_LIGHT, ServedPlan};
+use units::{Ask, ContactNo, MOST_CONTACTS};
 use walk::walk;
 
 // The most numbers of a case: an ask, and 64 contacts.
 pub const MOST: usize = 70;
-// The numbers of an ask.
-const ASK: usize = 6;
 // The most places lent.
 const MOST_LENT: usize = 70;
 
-// Whether these are the numbers of a case of that call: there are as many, the contact is one of those that count,
-// and there are so many places to lend.
-pub fn is_case(word: u64, count: usize, words: &[u64; MOST], contacts: usize) -> bool {
-    match word {
-        VALID => count == 0,
-        LIGHT => (count == 1) & (0 < words[0]) & (words[0] <= contacts as u64),
-        WALK => ASK <= count,
-        MILLION => count == ASK,
-        ROUTE | PLACES => (count == ASK + 1) & (words[ASK] <= MOST_LENT as u64),
-        _ => false,
-    }
+// The ask that the first six numbers are, and the numbers behind them.
+fn asked(numbers: &[u64]) -> Option<(Ask, &[u64])> {
+    let (ask, others) = numbers.split_first_chunk()?;
+    Some((ask_of(ask), others))
 }
 
-// The ask of the first six numbers.
-fn ask_of(words: &[u64; MOST]) -> Ask {
-    Ask {
-        source: NodeNo(words[0]),
-        destination: NodeNo(words[1]),
-        time: Millis(words[2]),
-        size: words[3],
-        deadline: Millis(words[4]),
-        excluded: words[5],
+// Whether the tables are a plan.
+fn valid(rt: &impl Print, tables: PlanTables, numbers: &[u64]) {
+    if !numbers.is_empty() {
+        return show::bad(rt);
     }
+    show::verdict(rt, CheckedPlan::of(tables).is_some());
 }
 
-// The number as one that a contact can have, which in a case it is.
-fn contact_no(n: u64) -> ContactNo
-    ensures { (1 ≤ result.0) × (result.0 ≤ 512) }
+// The light time of a contact of a plan that has so many.
+fn light_in(rt: &impl Print, plan: &CheckedPlan, no: ContactNo)
+    requires { (1 ≤ no.0) × (no.0 ≤ plan.now.tables.contact_count) }
 {
-    if n == 0 {
-        return ContactNo(1);
-    }
-    if 512 < n {
-        return ContactNo(512);
-    }
-    ContactNo(n)
+    let mut lights = [BLANK_LIGHT; MOST_CONTACTS];
+    let mut lefts = [BLANK_LEFT; MOST_CONTACTS];
+    let service = ServedPlan::unbooked(plan, &mut lights, &mut lefts);
+    show::light(rt, service.pass(no).light);
 }
 
-fn light(rt: &impl Print, contacts: &[u64], m: usize, ranges: &[u64], n: usize, no: ContactNo)
-    requires { (1 ≤ no.0) × (no.0 ≤ 512) }
-{
-    if is_plan(contacts, m, ranges, n) {
-        let mut lights = [0u32; MOST_CONTACTS];
-        let mut lefts = [0u64; MOST_CONTACTS];
-        service::serve(contacts, m, ranges, n, &mut lights, &mut lefts);
-        show::light(rt, service::light_numbered(&lights, no));
-    } else {
-        show::verdict(rt, false);
+// The light time of a contact, which is one of those that count.
+fn light(rt: &impl Print, tables: PlanTables, numbers: &[u64]) {
+    let [no] = numbers else {
+        return show::bad(rt);
+    };
+    if *no < 1 || (tables.contact_count as u64) < *no {
+        return show::bad(rt);
+    }
+    match CheckedPlan::of(tables) {
+        Some(plan) => light_in(rt, &plan, ContactNo(*no)),
+        None => show::verdict(rt, false),
     }
 }
 
-// The chain is what stands behind the ask.
-fn walked(
-    rt: &impl Print,
-    contacts: &[u64],
-    m: usize,
-    ranges: &[u64],
-    n: usize,
-    ask: Ask,
-    words: &[u64],
-    count: usize,
-)
-    requires { count ≤ length words.now }
-{
-    let from = least(ASK, count);
-    show::walked(rt, walk(contacts, m, ranges, n, ask, &words[from..count]));
+// The figures of the chain behind the ask.
+fn walked(rt: &impl Print, tables: PlanTables, numbers: &[u64]) {
+    match asked(numbers) {
+        Some((ask, chain)) => show::walked(rt, walk(tables, ask, chain)),
+        None => show::bad(rt),
+    }
 }
 
-// So many places are lent.
-fn routed(
-    rt: &impl Print,
-    contacts: &[u64],
-    m: usize,
-    ranges: &[u64],
-    n: usize,
-    ask: Ask,
-    lent: u64,
-    shown: bool,
-) {
-    let places = least(lent as usize, MOST_LENT);
+// Those of a chain of a million contacts.
+fn million(rt: &impl Print, tables: PlanTables, numbers: &[u64]) {
+    match asked(numbers) {
+        Some((ask, [])) => chains::million(rt, tables, ask),
+        _ => show::bad(rt),
+    }
+}
+
+// The best chain, where so many places are lent as the number behind the ask says.
+fn routed(rt: &impl Print, tables: PlanTables, numbers: &[u64], shown: bool) {
+    let Some((ask, [lent])) = asked(numbers) else {
+        return show::bad(rt);
+    };
+    if (MOST_LENT as u64) < *lent {
+        return show::bad(rt);
+    }
     let mut chain = [0u64; MOST_LENT];
-    chains::routed(
-        rt,
-        contacts,
-        m,
-        ranges,
-        n,
-        ask,
-        &mut chain[0..places],
-        shown,
-    );
+    chains::routed(rt, tables, ask, &mut chain[..*lent as usize], shown);
 }
 
 // The answer of a case, and the line's end.
-pub fn answer(
-    rt: &impl Print,
-    word: u64,
-    contacts: &[u64],
-    m: usize,
-    ranges: &[u64],
-    n: usize,
-    words: &[u64; MOST],
-    count: usize,
-)
-    requires { count ≤ 70 }
-{
-    let ask = ask_of(words);
-    match word {
-        VALID => show::verdict(rt, is_plan(contacts, m, ranges, n)),
-        LIGHT => light(rt, contacts, m, ranges, n, contact_no(words[0])),
-        WALK => walked(rt, contacts, m, ranges, n, ask, words, count),
-        MILLION => chains::million(rt, contacts, m, ranges, n, ask),
-        _ => routed(rt, contacts, m, ranges, n, ask, words[ASK], word == PLACES),
+pub fn answer(rt: &impl Print, call: Call, tables: PlanTables, numbers: &[u64]) {
+    match call {
+        Call::Valid => valid(rt, tables, numbers),
+        Call::Light => light(rt, tables, numbers),
+        Call::Walk => walked(rt, tables, numbers),
+        Call::Million => million(rt, tables, numbers),
+        Call::Route => routed(rt, tables, numbers, false),
+        Call::Places => routed(rt, tables, numbers, true),
     }
 }

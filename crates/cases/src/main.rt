@@ -26,13 +26,6 @@ mod step;
 mod tables;
 mod words;
 
-// The longest line.
-const LINE: usize = 2048;
-// The words of both tables.
-const TABLES: usize = 5130;
-
 fn main(rt: HostRuntime) {
-    let mut line = [0u8; LINE];
-    let mut tables = [0u64; TABLES];
-    input::all(&rt, &mut line, &mut tables);
+    input::all(&rt);
 }

@@ -1,14 +1,11 @@
 // How an answer is printed, and its line ended.
-use search::Routed;
-use units::{Refusal, number, place};
-use walk::{Figures, Walked};
+use search::Best;
+use units::{Millis, Refusal, number, place};
+use walk::Figures;
 
 // Prints the bytes. A write that fails is dropped.
 pub fn print(rt: &impl Print, bytes: &[u8]) {
-    match rt.write_all(bytes) {
-        Ok(()) => {}
-        Err(_) => {}
-    }
+    let _ = rt.write_all(bytes);
 }
 
 // A line that is not understood.
@@ -18,21 +15,13 @@ pub fn bad(rt: &impl Print) {
 
 // A tab and a number.
 fn field(rt: &impl Print, n: u64) {
-    match print!(rt; "\t{n}") {
-        Ok(()) => {}
-        Err(_) => {}
-    }
+    let _ = print!(rt; "\t{n}");
 }
 
 // The first `count` numbers.
 fn fields(rt: &impl Print, numbers: &[u64], count: usize) {
-    let mut i = 0;
-    while i < numbers.len() {
-        if i == count {
-            return;
-        }
-        field(rt, numbers[i]);
-        i += 1;
+    for n in numbers.iter().take(count) {
+        field(rt, *n);
     }
 }
 
@@ -68,10 +57,10 @@ pub fn light(rt: &impl Print, answer: Option<Millis>) {
 }
 
 // The four figures, or the number and the place.
-pub fn walked(rt: &impl Print, answer: Walked) {
+pub fn walked(rt: &impl Print, answer: Result<Figures, Refusal>) {
     match answer {
-        Walked::Carried(f) => figures(rt, f),
-        Walked::Refused(why) => refused(rt, why),
+        Ok(f) => figures(rt, f),
+        Err(why) => refused(rt, why),
     }
     print(rt, b"\n");
 }
@@ -84,15 +73,15 @@ fn places(rt: &impl Print, chain: &[u64]) {
 }
 
 // The figures, the count and the chain, or the number and the place; and the places, where they are shown.
-pub fn routed(rt: &impl Print, answer: Routed, chain: &[u64], shown: bool) {
+pub fn routed(rt: &impl Print, answer: Result<Best, Refusal>, chain: &[u64], shown: bool) {
     match answer {
-        Routed::Best(f, count) => {
+        Ok(best) => {
             print(rt, b"\troute");
-            figures(rt, f);
-            field(rt, count as u64);
-            fields(rt, chain, count);
+            figures(rt, best.figures);
+            field(rt, best.count as u64);
+            fields(rt, chain, best.count);
         }
-        Routed::Refused(why) => refused(rt, why),
+        Err(why) => refused(rt, why),
     }
     print(rt, b"\n");
     if shown {

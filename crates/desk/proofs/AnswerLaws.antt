@@ -24,7 +24,7 @@ use Rattle.timing.specs.Hop.{start_on}
 use Rattle.timing.proofs.ChainLaws.{carries_after}
 use Rattle.timing.proofs.HopLaws.{hop_sent}
 use Rattle.walk.specs.declared.figures.Figures.{Figures}
-use Rattle.std.specs.Prelude.{Ok, Err}
+use Rattle.std.specs.Prelude.{Result, Ok, Err}
 use Rattle.walk.specs.Figures.{HasFigures}
 use Rattle.units.specs.Asks.{GoodAsk}
 use Rattle.walk.specs.Walk.{carried, Walks, walked}
@@ -33,17 +33,14 @@ use Rattle.walk.proofs.Theorems.{figures_bounded}
 use Rattle.text.specs.Digits.{decimal}
 use Rattle.text.specs.Lines.{glue_fields, glue_line}
 use Rattle.text.specs.Rows.{line_of}
-use Rattle.text.specs.declared.answer.Written.{Written}
-use Rattle.text.specs.declared.answer.Written.TheVariants.{Length}
 use Rattle.text.proofs.Digits.{decimal_short}
 use Rattle.text.proofs.Members.{each_mem}
 use Rattle.search.specs.Route.{no_chain as no-allowed, too_late, best, Routes, short_chain, no_plan, bad_ask, same_node, routed}
-use Rattle.search.specs.declared.answer.Routed.{Routed}
-use Rattle.search.specs.declared.answer.Routed.TheVariants.{Best, Refused}
+use Rattle.search.specs.declared.answer.Best.{Best}
 use Rattle.search.proofs.Theorems.{routes_walks, routes_short}
 use Rattle.desk.specs.Answers.{route_word, refused_word, answer_line, answer_bytes, HasChain, of_best, of_refusal, WritesAnswer, no_chain, too_short, written}
 
-pub writes_answer_determined : {answer : Routed} {chain out : List ℕ} {r s : Written} {out₁ out₂ : List ℕ} → WritesAnswer answer chain out r out₁
+pub writes_answer_determined : {answer : Result Best Refusal} {chain out : List ℕ} {r s : Result ℕ Refusal} {out₁ out₂ : List ℕ} → WritesAnswer answer chain out r out₁
     → WritesAnswer answer chain out s out₂ → (r ≡ s) × (out₁ ≡ out₂)
 writes_answer_determined (no_chain n) (no_chain n') = (refl, refl)
 writes_answer_determined (no_chain n) (too_short has h) = absurd (n has)
@@ -55,7 +52,7 @@ writes_answer_determined (written has h) (no_chain n) = absurd (n has)
 writes_answer_determined (written has h) (too_short has' h') = absurd (omega arith)
 writes_answer_determined (written has h) (written has' h') = (refl, refl)
 
-pub writes_answer_fits : {answer : Routed} {chain out : List ℕ} {k : ℕ} {out' : List ℕ} → WritesAnswer answer chain out (Length k) out' → k ≤ length out
+pub writes_answer_fits : {answer : Result Best Refusal} {chain out : List ℕ} {k : ℕ} {out' : List ℕ} → WritesAnswer answer chain out (Ok k) out' → k ≤ length out
 writes_answer_fits (written has h) = h
 
 -- ---- the line of a refusal
@@ -90,7 +87,7 @@ number_short why = decimal_short 1 (number_of why) (small why)
     small FullBook = omega arith
     small NotOpen = omega arith
 
-pub refused_line_short : (why : Refusal) (chain : List ℕ) → place_of why < 10 ^ 20 → length (answer_bytes (Refused why) chain) ≤ 32
+pub refused_line_short : (why : Refusal) (chain : List ℕ) → place_of why < 10 ^ 20 → length (answer_bytes (Err why) chain) ≤ 32
 unfolding answer_bytes answer_line refused_word line_of glue_line glue_fields
 refused_line_short why chain h =
     let number = number_short why in
@@ -114,10 +111,11 @@ module _ {p : Service} {ask : Ask} where
   starts_early h stays = absurd (omega arith)
   starts_early h (hops i f b e k) = omega (arith, hop_sent _ _ _ _ _ _ e, carries_after k)
 
-  best_line_short : (f : Figures) (count : ℕ) (chain : List ℕ) → Sound p → GoodAsk ask → HasFigures p ask (take count chain) f → count ≤ most_chain
-      → length (answer_bytes (Best f count) chain) ≤ 305
+  best_line_short : (b : Best) (chain : List ℕ) → Sound p → GoodAsk ask → HasFigures p ask (take b.count chain) b.figures → b.count ≤ most_chain
+      → length (answer_bytes (Ok b) chain) ≤ 305
   unfolding answer_bytes answer_line route_word line_of glue_line glue_fields last_time most_size most_contacts most_chain
-  best_line_short f count chain valid good has few =
+  best_line_short b chain valid good has few =
+      let f = b.figures in
       let delivery = decimal_short 9 f.delivery.0 (omega (arith, has.in_time, good.deadline_most)) in
       let opens =
       decimal_short 9 f.opens.0
@@ -125,22 +123,22 @@ module _ {p : Service} {ask : Ask} where
       in
       let last = decimal_short 9 f.last_call.0 (omega (arith, (figures_bounded good has).0)) in
       let room = decimal_short 9 f.room (omega (arith, has.room.most)) in
-      let number = decimal_short 1 count (omega arith) in
+      let number = decimal_short 1 b.count (omega arith) in
       let others =
-      fields_short 2 (take count chain)
-      (λ c at. omega (arith, (each_mem (InPlan p) (take count chain) (carries_named p ask has.allowed.carried) at).most, valid.contacts_most))
+      fields_short 2 (take b.count chain)
+      (λ c at. omega (arith, (each_mem (InPlan p) (take b.count chain) (carries_named p ask has.allowed.carried) at).most, valid.contacts_most))
       in
-      simp length-append (omega (arith, length-take count chain))
+      simp length-append (omega (arith, length-take b.count chain))
 
 -- ---- what `route` answers
 
 module _ {contacts : List ℕ} {m : ℕ} {ranges : List ℕ} {n : ℕ} {ask : Ask} {before : List ℕ} where
   -- the contacts of a best chain stand in the first places of the lent chain
-  best_held : {f : Figures} {k : ℕ} {chain : List ℕ} → Routes contacts m ranges n ask before (Best f k) chain → k ≤ length chain
+  best_held : {b : Best} {chain : List ℕ} → Routes contacts m ranges n ask before (Ok b) chain → b.count ≤ length chain
   best_held (routed l p g d (best b h)) = rw length-append (omega arith)
 
   -- its refusals have no place
-  refused_place : {why : Refusal} {chain : List ℕ} → Routes contacts m ranges n ask before (Refused why) chain → place_of why ≡ 0
+  refused_place : {why : Refusal} {chain : List ℕ} → Routes contacts m ranges n ask before (Err why) chain → place_of why ≡ 0
   refused_place (short_chain h) = refl
   refused_place (no_plan l f) = refl
   refused_place (bad_ask l p f) = refl
@@ -148,25 +146,25 @@ module _ {contacts : List ℕ} {m : ℕ} {ranges : List ℕ} {n : ℕ} {ask : As
   refused_place (routed l p g d (no-allowed f)) = refl
   refused_place (routed l p g d (too_late a f)) = refl
 
-  pub has_chain : {answer : Routed} {chain : List ℕ} → Routes contacts m ranges n ask before answer chain → HasChain chain answer
+  pub has_chain : {answer : Result Best Refusal} {chain : List ℕ} → Routes contacts m ranges n ask before answer chain → HasChain chain answer
   has_chain {answer} {chain} r = go answer r
     where
-      go : (a : Routed) → Routes contacts m ranges n ask before a chain → HasChain chain a
-      go (Best f k) r = of_best (routes_short r) (best_held r)
-      go (Refused why) r = of_refusal
+      go : (a : Result Best Refusal) → Routes contacts m ranges n ask before a chain → HasChain chain a
+      go (Ok b) r = of_best (routes_short r) (best_held r)
+      go (Err why) r = of_refusal
 
-  pub route_line_short : {answer : Routed} {chain : List ℕ} → Routes contacts m ranges n ask before answer chain → length (answer_bytes answer chain) ≤ 305
+  pub route_line_short : {answer : Result Best Refusal} {chain : List ℕ} → Routes contacts m ranges n ask before answer chain → length (answer_bytes answer chain) ≤ 305
   route_line_short {answer} {chain} r = go answer r
     where
-      told : (f : Figures) (k : ℕ) → Walks contacts m ranges n ask (take k chain) (Ok f) → k ≤ most_chain → length (answer_bytes (Best f k) chain) ≤ 305
-      told f k (walked plan good differ (carried has)) few = best_line_short f k chain (service_sound _ plan.valid unused) good has few
+      told : (b : Best) → Walks contacts m ranges n ask (take b.count chain) (Ok b.figures) → b.count ≤ most_chain → length (answer_bytes (Ok b) chain) ≤ 305
+      told b (walked plan good differ (carried has)) few = best_line_short b chain (service_sound _ plan.valid unused) good has few
 
-      go : (a : Routed) → Routes contacts m ranges n ask before a chain → length (answer_bytes a chain) ≤ 305
-      go (Best f k) r = told f k (routes_walks r) (routes_short r)
-      go (Refused why) r = le_trans (refused_line_short why chain (omega (arith, refused_place r))) (omega arith)
+      go : (a : Result Best Refusal) → Routes contacts m ranges n ask before a chain → length (answer_bytes a chain) ≤ 305
+      go (Ok b) r = told b (routes_walks r) (routes_short r)
+      go (Err why) r = le_trans (refused_line_short why chain (omega (arith, refused_place r))) (omega arith)
 
 -- ---- there is room
 
-pub has_room : {answer : Routed} {chain out : List ℕ} {r : Written} {out' : List ℕ} → HasChain chain answer → length (answer_bytes answer chain) ≤ length out
-    → WritesAnswer answer chain out r out' → r ≡ Length (length (answer_bytes answer chain))
+pub has_room : {answer : Result Best Refusal} {chain out : List ℕ} {r : Result ℕ Refusal} {out' : List ℕ} → HasChain chain answer → length (answer_bytes answer chain) ≤ length out
+    → WritesAnswer answer chain out r out' → r ≡ Ok (length (answer_bytes answer chain))
 has_room has h w = (writes_answer_determined w (written has h)).0

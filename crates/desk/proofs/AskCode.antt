@@ -1,10 +1,10 @@
 -- What the code of an ask line knows of the model and of the promise.
---     ends_short, ends_by            whether bytes end in those
---     ask_by_lem, ask_row                the shape of a line, and the row that it fills
+--     ends_is                        whether bytes end in those, by the library's `ends_with`
+--     asked_shape, ask_row           the shape of a line, and the row that it fills
 --     judged_asked, judged_bad       what a line of good shape gives
 --     read_bad, read_judged          what reading a line gives
 -- Assumes nothing.
-use mathlib.Core.Bool.{Bool, true, false, false≢true, not, ◌&&◌, ◌||◌, and-true, and-false}
+use mathlib.Core.Bool.{Bool, true, false, false≢true, not, ◌&&◌, ◌||◌, cond, and-true, and-false}
 use mathlib.Core.List.{List, [], ◌∷◌, map}
 use mathlib.Core.Logic.{◌⊎◌, inl, inr}
 use mathlib.Core.Path.{◌≡◌, refl, sym, ap, ap₂, ◌∙◌, subst}
@@ -12,54 +12,47 @@ use Prim.Native.Nat.{ℕ, ◌+◌, ◌-◌, ◌≤◌, ◌<◌}
 use native.Mathlib.Decide.{ℕ_discrete}
 use native.Mathlib.Omega.{arith}
 use lib.Dec.{eqb}
-use lib.ListN.{length, get_or, take, drop, length-drop, get_or-map}
-use lib.Seq.{take_all}
+use lib.ListN.{length, get_or, take, drop, get_or-map}
+use lib.Pointwise.{pointwise}
+use Rattle.std.specs.Prelude.{Result, Ok, Err, nat_eq}
 use Rattle.units.specs.Limits.{most_nodes, last_time, most_size}
 use Rattle.units.specs.declared.Ask.{Ask}
+use Rattle.units.specs.declared.Refusal.{Refusal}
 use Rattle.units.specs.declared.Refusal.TheVariants.{AskValue, AskShape}
 use Rattle.plan.specs.Model.{each}
 use Rattle.plan.specs.Plan.{Each}
 use Rattle.plan.specs.Verdict.{Verdict, holds, fails}
-use Rattle.plan.proofs.Verdicts.{tells_eq, both, either, denied, restated, true_holds, false_fails}
+use Rattle.plan.proofs.Verdicts.{tells_eq, both, either, denied, restated, true_holds, false_fails, answers_agree}
 use Rattle.text.specs.Digits.{Number, value_from, value, decimal}
 use Rattle.text.specs.Lines.{tab}
 use Rattle.text.specs.Model.{line_in, up_to, same, is_number, is_shaped, capped}
 use Rattle.text.specs.Rows.{Shaped}
 use Rattle.text.proofs.Digits.{decimal_value}
-use Rattle.text.proofs.Shapes.{number_tells, shaped_tells}
+use Rattle.text.proofs.Shapes.{number_tells, same_tells, shaped_tells}
 use Rattle.text_lines.specs.Model.{capped_value, fields_from, good_fields}
-use Rattle.text_lines.proofs.BytesCode.{same_unlike}
+use Rattle.text_lines.proofs.BytesCode.{same_is}
 use Rattle.text_lines.proofs.LineCode.{capped_word, fields_are, shape_is}
 use Rattle.units.specs.Model.{good_ask}
 use Rattle.units.specs.Asks.{GoodAsk}
-use Rattle.walk.proofs.WalkCode.{good_ask_tells}
-use Rattle.desk.specs.AskModel.{ends_in, most_digits, good_excluded, pick_read, judged_ask}
+use Rattle.desk.specs.AskModel.{ends_in, most_digits, good_excluded, judged_ask}
 use Rattle.desk.specs.Asks.{ask_word, ask_numbers, ask_of_numbers, ask_said, most_excluded, InRange, ReadsAsk, bad_shape, bad_value, asked}
-use Rattle.desk.specs.declared.ask.AskRead.{AskRead}
-use Rattle.desk.specs.declared.ask.AskRead.TheVariants.{Asked, Refused}
+use Rattle.desk.proofs.AskLaws.{good_ask_tells}
 use Rattle.desk.proofs.LastField.{last_tells}
 
 -- ---- the bytes that a line ends in
 
-module _ (tail bytes : List ℕ) where
-  abbrev At : ℕ
-  At = length bytes - length tail
-
-  pub ends_short : length bytes < length tail → false ≡ ends_in tail bytes
-  unfolding ends_in
-  ends_short h = sym (same_unlike (drop At bytes) tail (λ e. omega (arith, length-drop At bytes)))
-
-  pub ends_by : (t : Bool) → t ≡ same (take (length bytes - At) (drop At bytes)) tail → t ≡ ends_in tail bytes
-  unfolding ends_in
-  ends_by t e = e ∙ ap (λ (bs : List ℕ). same bs tail) (take_all (length bytes - At) (drop At bytes) (omega (arith, length-drop At bytes)))
+pub ends_is : (tail bytes : List ℕ) (t : Bool) → t ≡ pointwise nat_eq tail (drop (length bytes - length tail) bytes) → t ≡ ends_in tail bytes
+unfolding ends_in
+ends_is tail bytes t e =
+    let end : List ℕ = drop (length bytes - length tail) bytes in
+    e ∙ same_is tail end ∙ answers_agree (restated sym sym (same_tells tail end)) (same_tells end tail)
 
 -- ---- the shape of a line
 
-pub ask_by_lem : (line : List ℕ) (end : ℕ) → end ≡ 0 + up_to tab (drop 0 line) → (ended s b : Bool) (count : ℕ) → count ≡ ask_numbers
-    → b ≡ good_fields count (fields_from line end) → s ≡ same (take end line) ask_word → s && b && ended ≡ is_shaped ask_word ask_numbers (line_in line ended)
-ask_by_lem line end ends ended s b count ec eb es =
-    let counted : b ≡ good_fields ask_numbers (fields_from line end) = eb ∙ ap (λ (n : ℕ). good_fields n (fields_from line end)) ec in
-    ap₂ (λ (x y : Bool). x && y && ended) es counted ∙ sym (shape_is line end ends ask_word ask_numbers ended)
+pub asked_shape : (line : List ℕ) (end : ℕ) → end ≡ 0 + up_to tab (drop 0 line) → (ended s b : Bool) → b ≡ good_fields ask_numbers (fields_from line end)
+    → s ≡ pointwise nat_eq (take end line) ask_word → s && b && ended ≡ is_shaped ask_word ask_numbers (line_in line ended)
+asked_shape line end ends ended s b eb es =
+    ap₂ (λ (x y : Bool). x && y && ended) (es ∙ same_is (take end line) ask_word) eb ∙ sym (shape_is line end ends ask_word ask_numbers ended)
 
 pub ask_row : (line : List ℕ) (end : ℕ) → end ≡ 0 + up_to tab (drop 0 line) → (ended s b : Bool) (row : List ℕ)
     → (b ≡ true → row ≡ map capped_value (fields_from line end)) → s && b && ended ≡ true → row ≡ map capped_value (line_in line ended).fields
@@ -170,11 +163,11 @@ module _ (line row : List ℕ) (ask : Ask) (g x : Bool) (ea : ask ≡ ask_of_num
   tested b e =
       subst (λ (a : Ask). good_ask a && good_excluded line a.excluded ≡ b) ea (ap₂ (λ (p q : Bool). p && q) (sym eg) (sym ex) ∙ e)
 
-  pub judged_asked : g && x ≡ true → Asked ask ≡ judged_ask line row
+  pub judged_asked : g && x ≡ true → Ok ask ≡ judged_ask line row
   unfolding judged_ask
-  judged_asked e = rw (tested true e) (ap Asked ea)
+  judged_asked e = rw (tested true e) (ap (λ (a : Ask). Ok a) ea)
 
-  pub judged_bad : g && x ≡ false → Refused AskValue ≡ judged_ask line row
+  pub judged_bad : g && x ≡ false → Err AskValue ≡ judged_ask line row
   unfolding judged_ask
   judged_bad e = rw (tested false e)
 
@@ -211,20 +204,20 @@ module _ (line : List ℕ) (ended : Bool) (s : Shaped ask_word ask_numbers (line
   judged_reads n = go range_tells
     where
       go : {b : Bool} → Verdict (InRange (ask_said (line_in line ended))) b
-          → ReadsAsk (line_in line ended) n (pick_read b (Asked (ask_of_numbers (map capped_value fields))) (Refused AskValue))
+          → ReadsAsk (line_in line ended) n (cond b (Ok (ask_of_numbers (map capped_value fields))) (Err AskValue))
       go (holds r) =
-          subst (λ (a : Ask). ReadsAsk (line_in line ended) n (Asked a)) (sym (ask_capped fields ∙ range_same (ask_said (line_in line ended)) r)) (asked s r)
+          subst (λ (a : Ask). ReadsAsk (line_in line ended) n (Ok a)) (sym (ask_capped fields ∙ range_same (ask_said (line_in line ended)) r)) (asked s r)
       go (fails r) = bad_value s r
 
 -- ---- what reading a line gives
 
-module _ (line : List ℕ) (ended : Bool) (n : ℕ) (b : Bool) (eb : b ≡ is_shaped ask_word ask_numbers (line_in line ended)) where
-  pub read_bad : b ≡ false → ReadsAsk (line_in line ended) n (Refused (AskShape n))
-  read_bad e = bad_shape (false_fails (shaped_tells ask_word ask_numbers (line_in line ended)) (sym eb ∙ e))
+module _ (line : List ℕ) (ended : Bool) (n : ℕ) where
+  pub read_bad : is_shaped ask_word ask_numbers (line_in line ended) ≡ false → ReadsAsk (line_in line ended) n (Err (AskShape n))
+  read_bad e = bad_shape (false_fails (shaped_tells ask_word ask_numbers (line_in line ended)) e)
 
-  pub read_judged : (row : List ℕ) (r : AskRead) → b ≡ true → row ≡ map capped_value (line_in line ended).fields → r ≡ judged_ask line row
-      → ReadsAsk (line_in line ended) n r
+  pub read_judged : (row : List ℕ) (r : Result Ask Refusal) → is_shaped ask_word ask_numbers (line_in line ended) ≡ true
+      → row ≡ map capped_value (line_in line ended).fields → r ≡ judged_ask line row → ReadsAsk (line_in line ended) n r
   unfolding fields
   read_judged row r e er ej =
       subst (ReadsAsk (line_in line ended) n) (sym (ej ∙ ap (judged_ask line) er))
-      (judged_reads line ended (true_holds (shaped_tells ask_word ask_numbers (line_in line ended)) (sym eb ∙ e)) n)
+      (judged_reads line ended (true_holds (shaped_tells ask_word ask_numbers (line_in line ended)) e) n)

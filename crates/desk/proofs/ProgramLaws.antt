@@ -10,16 +10,14 @@ use Prim.Native.Nat.{ℕ, ◌≤◌}
 use native.Mathlib.Omega.{arith}
 use lib.ListN.{length, take, drop}
 use lib.Seq.{take_at}
+use Rattle.std.specs.Prelude.{Result, Ok, Err}
 use Rattle.units.specs.Limits.{most_text}
 use Rattle.units.specs.declared.Refusal.{Refusal}
-use Rattle.text.specs.Calls.{Reads}
+use Rattle.text.specs.Calls.{counts, Reads}
+use Rattle.text.specs.declared.answer.Counts.{Counts}
 use Rattle.text.specs.Lines.{lines_of}
-use Rattle.text.specs.declared.answer.PlanRead.{PlanRead}
-use Rattle.text.specs.declared.answer.PlanRead.TheVariants.{Rows, Refused as NotRead}
-use Rattle.text.specs.declared.answer.Written.TheVariants.{Length}
 use Rattle.text.proofs.Calls.{reads_determined}
-use Rattle.search.specs.declared.answer.Routed.{Routed}
-use Rattle.search.specs.declared.answer.Routed.TheVariants.{Refused}
+use Rattle.search.specs.declared.answer.Best.{Best}
 use Rattle.desk_lines.specs.Through.{Prints, AnswersPart}
 use Rattle.desk_lines.proofs.PrintLaws.{prints_determined}
 use Rattle.desk_lines.proofs.ThroughLaws.{part_whole, all_printed}
@@ -28,26 +26,28 @@ use Rattle.desk.specs.Program.{blank_table, Printed, plan_refused, input_refused
 use Rattle.desk.specs.Through.{Says}
 use Rattle.desk.proofs.ThroughLaws.{says_one}
 
-pub wrote_line : {answer : Routed} {chain out : List ℕ} {used : ℕ} {out' : List ℕ} → WritesAnswer answer chain out (Length used) out'
+pub wrote_line : {answer : Result Best Refusal} {chain out : List ℕ} {used : ℕ} {out' : List ℕ} → WritesAnswer answer chain out (Ok used) out'
     → take used out' ≡ answer_bytes answer chain
 wrote_line {answer} {chain} {out} (written has h) =
     let bytes : List ℕ = answer_bytes answer chain in
     take_at bytes (drop (length bytes) out) (length bytes) refl
 
-same_refusal : {x y : Refusal} → ◌≡◌ {A = PlanRead} (NotRead x) (NotRead y) → x ≡ y
+same_refusal : {x y : Refusal} → ◌≡◌ {A = Result Counts Refusal} (Err x) (Err y) → x ≡ y
 same_refusal e = cc
 
-same_counts : {m n j k : ℕ} → ◌≡◌ {A = PlanRead} (Rows m n) (Rows j k) → (m ≡ j) × (n ≡ k)
-same_counts e = (cc, cc)
+same_counts : {m n j k : ℕ} → ◌≡◌ {A = Result Counts Refusal} (Ok (counts m n)) (Ok (counts j k)) → (m ≡ j) × (n ≡ k)
+same_counts {m} {n} {j} {k} e =
+    let same : counts m n ≡ counts j k = cc in
+    (ap (λ (c : Counts). c.contacts) same, ap (λ (c : Counts). c.ranges) same)
 
 module _ {text : List ℕ} where
-  plan_or_not : {why : Refusal} {m n : ℕ} {a b c d : List ℕ} → Reads text blank_table blank_table (NotRead why) a b
-      → Reads text blank_table blank_table (Rows m n) c d → ⊥
-  plan_or_not x y = let e = (reads_determined x y).0 in let z : ◌≡◌ {A = ℕ} 0 1 = cc in omega arith
+  plan_or_not : {why : Refusal} {m n : ℕ} {a b c d : List ℕ} → Reads text blank_table blank_table (Err why) a b
+      → Reads text blank_table blank_table (Ok (counts m n)) c d → ⊥
+  plan_or_not x y = let e = (reads_determined x y).0 in cc
 
   module _ {input : List ℕ} where
     pub printed_determined : {a b : List ℕ} → Printed text input a → Printed text input b → a ≡ b
-    printed_determined (plan_refused x) (plan_refused y) = ap (λ (why : Refusal). answer_bytes (Refused why) []) (same_refusal (reads_determined x y).0)
+    printed_determined (plan_refused x) (plan_refused y) = ap (λ (why : Refusal). answer_bytes (Err why) []) (same_refusal (reads_determined x y).0)
     printed_determined (plan_refused x) (input_refused y g) = absurd (plan_or_not x y)
     printed_determined (plan_refused x) (answered y g q) = absurd (plan_or_not x y)
     printed_determined (input_refused x h) (plan_refused y) = absurd (plan_or_not y x)
@@ -58,7 +58,7 @@ module _ {text : List ℕ} where
     printed_determined {b} (answered {m} {n} {contacts} {ranges} x h p) (answered y g q) =
         (prints_determined (says_one contacts m ranges n) p (move (reads_determined x y) q)).0
       where
-        move : {j k : ℕ} {cs rs : List ℕ} → (◌≡◌ {A = PlanRead} (Rows m n) (Rows j k)) × (contacts ≡ cs) × (ranges ≡ rs)
+        move : {j k : ℕ} {cs rs : List ℕ} → (◌≡◌ {A = Result Counts Refusal} (Ok (counts m n)) (Ok (counts j k))) × (contacts ≡ cs) × (ranges ≡ rs)
             → Prints (Says cs j rs k) tt 1 (lines_of input) b tt → Prints (Says contacts m ranges n) tt 1 (lines_of input) b tt
         move {j} {cs} (e, same_contacts, same_ranges) r =
             let counts = same_counts e in
@@ -70,6 +70,6 @@ module _ {text : List ℕ} where
     runs_print (stops_at_input x h w) = subst (Printed text input) (sym (wrote_line w)) (input_refused x h)
     runs_print (goes_through x h c) = answered x h (all_printed c)
 
-    pub part_prints : {m n : ℕ} {contacts ranges : List ℕ} {to n' : ℕ} {bytes : List ℕ} → Reads text blank_table blank_table (Rows m n) contacts ranges
+    pub part_prints : {m n : ℕ} {contacts ranges : List ℕ} {to n' : ℕ} {bytes : List ℕ} → Reads text blank_table blank_table (Ok (counts m n)) contacts ranges
         → length input ≤ most_text → AnswersPart (Says contacts m ranges n) input tt 0 1 tt to n' bytes → length input ≤ to → Printed text input bytes
     part_prints x few p over = answered x few (part_whole p over)

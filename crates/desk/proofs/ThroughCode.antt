@@ -1,47 +1,22 @@
 -- What the code of `answer_lines` knows.
---     over_one, over_none      what its test of the input's length and of the first number says
 --     answered_into      where `answer_line` writes, it is the line's answer
 --     never_refused      with room for the longest answer it does write
 -- Assumes nothing.
-use mathlib.Core.Bool.{Bool, true, false, ◌||◌}
 use mathlib.Core.List.{List, [], ◌++◌, append-nil}
-use mathlib.Core.Logic.{◌⊎◌, inl, inr}
 use mathlib.Core.Path.{◌≡◌, refl, sym, ap, ◌∙◌}
 use Prim.Native.Nat.{ℕ, ◌+◌, ◌-◌, ◌^◌, ◌≤◌, ◌<◌}
 use native.Mathlib.Omega.{arith}
-use borrow.Author.Tests.{ltb-true, ltb-false}
 use borrow.Author.Rules.{part_to_end}
-use lib.Dec.{ltb}
 use lib.ListN.{length, take, drop, length-drop, drop_of_length-le}
-use Rattle.units.specs.Limits.{most_text}
+use Rattle.std.specs.Prelude.{Result, Ok, Err}
 use Rattle.units.specs.declared.Refusal.{Refusal}
 use Rattle.text.specs.Lines.{Line}
-use Rattle.text.specs.declared.answer.Written.{Written}
-use Rattle.text.specs.declared.answer.Written.TheVariants.{Length, Refused}
-use Rattle.search.specs.declared.answer.Routed.{Routed}
+use Rattle.search.specs.declared.answer.Best.{Best}
 use Rattle.desk_lines.specs.Turn.{AnswersInto}
 use Rattle.desk.specs.Answers.{answer_bytes, WritesAnswer, no_chain, too_short, written}
 use Rattle.desk.specs.Desk.{Answers}
 use Rattle.desk.specs.Through.{longest, Says, says}
 use Rattle.desk.proofs.DeskLaws.{answers_has_room}
-
--- ---- what is taken
-
-pub over_one : (a b : ℕ) → ltb most_text a || ltb most_text b ≡ true → (most_text < a) ⊎ (most_text < b)
-over_one a b = go (ltb most_text a) (ltb most_text b) refl refl
-  where
-    go : (x y : Bool) → ltb most_text a ≡ x → ltb most_text b ≡ y → x || y ≡ true → (most_text < a) ⊎ (most_text < b)
-    go true y p q e = inl (ltb-true most_text a p)
-    go false true p q e = inr (ltb-true most_text b q)
-    go false false p q e = let z : ◌≡◌ {A = ℕ} 0 1 = cc in absurd (omega arith)
-
-pub over_none : (a b : ℕ) → ltb most_text a || ltb most_text b ≡ false → (a ≤ most_text) × (b ≤ most_text)
-over_none a b = go (ltb most_text a) (ltb most_text b) refl refl
-  where
-    go : (x y : Bool) → ltb most_text a ≡ x → ltb most_text b ≡ y → x || y ≡ false → (a ≤ most_text) × (b ≤ most_text)
-    go true y p q e = let z : ◌≡◌ {A = ℕ} 0 1 = cc in absurd (omega arith)
-    go false true p q e = let z : ◌≡◌ {A = ℕ} 0 1 = cc in absurd (omega arith)
-    go false false p q e = (ltb-false most_text a p, ltb-false most_text b q)
 
 -- ---- a line answered
 
@@ -51,17 +26,17 @@ record Wrote (bytes out : List ℕ) (b : ℕ) (out' : List ℕ) : Type 0 where
   fits : b ≤ length out
   puts : out' ≡ bytes ++ drop (length bytes) out
 
-wrote : {answer : Routed} {chain out : List ℕ} {r : Written} {out' : List ℕ} (b : ℕ) → WritesAnswer answer chain out r out' → r ≡ Length b
+wrote : {answer : Result Best Refusal} {chain out : List ℕ} {r : Result ℕ Refusal} {out' : List ℕ} (b : ℕ) → WritesAnswer answer chain out r out' → r ≡ Ok b
     → Wrote (answer_bytes answer chain) out b out'
-wrote b (no_chain f) e = let z : ◌≡◌ {A = ℕ} 0 1 = cc in absurd (omega arith)
-wrote b (too_short has h) e = let z : ◌≡◌ {A = ℕ} 0 1 = cc in absurd (omega arith)
+wrote b (no_chain f) e = absurd (cc)
+wrote b (too_short has h) e = absurd (cc)
 wrote {answer} {chain} b (written has h) e =
     let long : b ≡ length (answer_bytes answer chain) = cc in
     record { long = long; fits = omega arith; puts = refl }
 
 module _ {contacts : List ℕ} {m : ℕ} {ranges : List ℕ} {k : ℕ} {l : Line} {n : ℕ} where
-  pub answered_into : (out : List ℕ) (used : ℕ) (out'' : List ℕ) {r : Written} (b : ℕ) → used ≤ length out
-      → Answers contacts m ranges k l n (take (length out - used) (drop used out)) r out'' → r ≡ Length b
+  pub answered_into : (out : List ℕ) (used : ℕ) (out'' : List ℕ) {r : Result ℕ Refusal} (b : ℕ) → used ≤ length out
+      → Answers contacts m ranges k l n (take (length out - used) (drop used out)) r out'' → r ≡ Ok b
       → AnswersInto (Says contacts m ranges k) tt l n out used tt (used + b) (take used out ++ (out'' ++ drop (length out - used) (drop used out)))
   answered_into out used out'' b inside x e =
       let one : List ℕ = answer_bytes x.answer x.chain in
@@ -79,12 +54,10 @@ module _ {contacts : List ℕ} {m : ℕ} {ranges : List ℕ} {k : ℕ} {l : Line
             (ap (λ (bs : List ℕ). out'' ++ bs) after ∙ append-nil out'' ∙ w.puts ∙ ap (λ (bs : List ℕ). one ++ drop (length one) bs) whole);
       }
 
-  pub never_refused : (out : List ℕ) (used : ℕ) (out'' : List ℕ) {r : Written} (why : Refusal) → n < 2 ^ 64 → used + longest ≤ length out
-      → Answers contacts m ranges k l n (take (length out - used) (drop used out)) r out'' → r ≡ Refused why → ⊥
+  pub never_refused : (out : List ℕ) (used : ℕ) (out'' : List ℕ) {r : Result ℕ Refusal} (why : Refusal) → n < 2 ^ 64 → used + longest ≤ length out
+      → Answers contacts m ranges k l n (take (length out - used) (drop used out)) r out'' → r ≡ Err why → ⊥
   never_refused out used out'' why few room a e =
       let roomy : 305 ≤ length (take (length out - used) (drop used out)) = omega (arith, ap length (part_to_end out used), length-drop used out) in
       let h = answers_has_room (omega arith) roomy a in
-      clash h.0 (sym h.1 ∙ e)
-    where
-      clash : (b : ℕ) → ◌≡◌ {A = Written} (Length b) (Refused why) → ⊥
-      clash b e = let z : ◌≡◌ {A = ℕ} 0 1 = cc in omega arith
+      let both : ◌≡◌ {A = Result ℕ Refusal} (Ok h.0) (Err why) = sym h.1 ∙ e in
+      cc

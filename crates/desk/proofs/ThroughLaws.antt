@@ -9,9 +9,11 @@ use mathlib.Core.Path.{◌≡◌, refl, ap, ap₂, ◌∙◌}
 use Prim.Native.Nat.{ℕ, ◌≤◌, ◌<◌}
 use native.Mathlib.Omega.{arith}
 use lib.ListN.{length}
+use Rattle.std.specs.Prelude.{Result}
+use Rattle.units.specs.declared.Refusal.{Refusal}
 use Rattle.units.specs.Limits.{most_text}
 use Rattle.text.specs.Lines.{Line}
-use Rattle.search.specs.declared.answer.Routed.{Routed}
+use Rattle.search.specs.declared.answer.Best.{Best}
 use Rattle.desk_lines.specs.Through.{AnswersLines}
 use Rattle.desk_lines.proofs.PrintLaws.{HasOneAnswer}
 use Rattle.desk_lines.proofs.ThroughLaws.{lines_determined}
@@ -38,7 +40,7 @@ module _ (contacts : List ℕ) (m : ℕ) (ranges : List ℕ) (k : ℕ) where
           → (a ≡ b) × (t ≡ u)
       one (says x) (says y) =
           let both = replies_determined x y in
-          (ap₂ (λ (answer : Routed) (chain : List ℕ). answer_bytes answer chain) both.0 both.1, refl)
+          (ap₂ (λ (answer : Result Best Refusal) (chain : List ℕ). answer_bytes answer chain) both.0 both.1, refl)
 
 module _ {contacts : List ℕ} {m : ℕ} {ranges : List ℕ} {k : ℕ} {input : List ℕ} {at n : ℕ} {out : List ℕ} where
   pub answers_from_determined : {r s : Reached} {out₁ out₂ : List ℕ} → AnswersFrom contacts m ranges k input at n out r out₁

@@ -2,15 +2,14 @@
 --     ask_said       the ask that a line of good shape says
 --     ReadsAsk      what reading the line gives; `n` is the line's place in the input
 -- Assumes nothing.
-use Rattle.std.specs.Prelude.{List, [], ◌∷◌, map, ℕ, ◌≤◌, get_or}
+use Rattle.std.specs.Prelude.{List, [], ◌∷◌, map, ℕ, ◌≤◌, get_or, Result, Ok, Err}
 use Rattle.units.specs.declared.Ask.{Ask}
+use Rattle.units.specs.declared.Refusal.{Refusal}
 use Rattle.units.specs.declared.Refusal.TheVariants.{AskValue, AskShape}
 use Rattle.text.specs.Digits.{value}
 use Rattle.text.specs.Lines.{Line}
 use Rattle.text.specs.Rows.{Shaped}
 use Rattle.units.specs.Asks.{GoodAsk}
-use Rattle.desk.specs.declared.ask.AskRead.{AskRead}
-use Rattle.desk.specs.declared.ask.AskRead.TheVariants.{Asked, Refused}
 
 unfoldable pub ask_word : List ℕ
 ask_word = 97 ∷ 115 ∷ 107 ∷ []
@@ -44,7 +43,7 @@ pub record InRange (ask : Ask) : Type 0 where
   pub excluded_most : ask.excluded ≤ most_excluded
 
 -- 17 at the line's place where its shape is bad; else 11 where a value is out of its range; else the ask
-pub data ReadsAsk (l : Line) (n : ℕ) : AskRead → Type 0 where
-  bad_shape : (Shaped ask_word ask_numbers l → ⊥) → ReadsAsk l n (Refused (AskShape n))
-  bad_value : Shaped ask_word ask_numbers l → (InRange (ask_said l) → ⊥) → ReadsAsk l n (Refused AskValue)
-  asked : Shaped ask_word ask_numbers l → InRange (ask_said l) → ReadsAsk l n (Asked (ask_said l))
+pub data ReadsAsk (l : Line) (n : ℕ) : Result Ask Refusal → Type 0 where
+  bad_shape : (Shaped ask_word ask_numbers l → ⊥) → ReadsAsk l n (Err (AskShape n))
+  bad_value : Shaped ask_word ask_numbers l → (InRange (ask_said l) → ⊥) → ReadsAsk l n (Err AskValue)
+  asked : Shaped ask_word ask_numbers l → InRange (ask_said l) → ReadsAsk l n (Ok (ask_said l))

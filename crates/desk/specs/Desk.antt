@@ -3,19 +3,16 @@
 --     Replies      the answer of an ask line; `n` is the line's place in the input
 --     Answers      an ask line is answered
 -- Assumes nothing.
-use Rattle.std.specs.Prelude.{List, [], ℕ, replicate}
+use Rattle.std.specs.Prelude.{List, [], ℕ, replicate, Result, Ok, Err}
 use Rattle.units.specs.declared.Ask.{Ask}
 use Rattle.units.specs.declared.Refusal.{Refusal}
 use Rattle.units.specs.declared.Refusal.TheVariants.{NoPlan}
 use Rattle.plan.specs.Tables.{IsPlan}
 use Rattle.text.specs.Lines.{Line}
-use Rattle.text.specs.declared.answer.Written.{Written}
 use Rattle.search.specs.Route.{Routes}
-use Rattle.search.specs.declared.answer.Routed.{Routed}
-use Rattle.search.specs.declared.answer.Routed.TheVariants.{Refused as NoRoute}
+use Rattle.search.specs.declared.answer.Best.{Best}
 use Rattle.desk.specs.Answers.{WritesAnswer}
 use Rattle.desk.specs.Asks.{ReadsAsk}
-use Rattle.desk.specs.declared.ask.AskRead.TheVariants.{Asked, Refused}
 
 -- the chain that `route` is lent: 63 places
 unfoldable pub places : List ℕ
@@ -23,15 +20,15 @@ places = replicate 63 0
 
 module _ (contacts : List ℕ) (m : ℕ) (ranges : List ℕ) (k : ℕ) (l : Line) (n : ℕ) where
   -- 9 where the lent tables are no plan; else the line's own refusal; else what `route` says of its ask, with its chain
-  pub data Replies : Routed → List ℕ → Type 0 where
-    no_plan : (IsPlan contacts m ranges k → ⊥) → Replies (NoRoute NoPlan) []
-    not_asked : {why : Refusal} → IsPlan contacts m ranges k → ReadsAsk l n (Refused why) → Replies (NoRoute why) []
-    asked : {ask : Ask} {answer : Routed} {chain : List ℕ} → IsPlan contacts m ranges k → ReadsAsk l n (Asked ask)
+  pub data Replies : Result Best Refusal → List ℕ → Type 0 where
+    no_plan : (IsPlan contacts m ranges k → ⊥) → Replies (Err NoPlan) []
+    not_asked : {why : Refusal} → IsPlan contacts m ranges k → ReadsAsk l n (Err why) → Replies (Err why) []
+    asked : {ask : Ask} {answer : Result Best Refusal} {chain : List ℕ} → IsPlan contacts m ranges k → ReadsAsk l n (Ok ask)
         → Routes contacts m ranges k ask places answer chain → Replies answer chain
 
   -- that answer is written
-  pub record Answers (out : List ℕ) (r : Written) (out' : List ℕ) : Type 0 where
-    pub answer : Routed
+  pub record Answers (out : List ℕ) (r : Result ℕ Refusal) (out' : List ℕ) : Type 0 where
+    pub answer : Result Best Refusal
     pub chain : List ℕ
     pub replies : Replies answer chain
     pub writes : WritesAnswer answer chain out r out'

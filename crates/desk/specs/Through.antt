@@ -4,10 +4,11 @@
 --     Says             the answer of a line, as bytes
 --     AnswersFrom      the lines of an input from a place on are answered
 -- Assumes nothing.
-use Rattle.std.specs.Prelude.{List, ◌⊎◌, ℕ, ◌≤◌, ◌<◌, length}
+use Rattle.std.specs.Prelude.{List, ◌⊎◌, ℕ, ◌≤◌, ◌<◌, length, Result}
 use Rattle.units.specs.Limits.{most_text}
 use Rattle.text.specs.Lines.{Line}
-use Rattle.search.specs.declared.answer.Routed.{Routed}
+use Rattle.units.specs.declared.Refusal.{Refusal}
+use Rattle.search.specs.declared.answer.Best.{Best}
 use Rattle.desk_lines.specs.Through.{AnswersLines}
 use Rattle.desk.specs.Answers.{answer_bytes}
 use Rattle.desk.specs.Desk.{Replies}
@@ -19,7 +20,7 @@ longest = 305
 module _ (contacts : List ℕ) (m : ℕ) (ranges : List ℕ) (k : ℕ) where
   -- the bytes of its answer; nothing is kept from line to line
   pub data Says (s : Unit {0}) (l : Line) (n : ℕ) : List ℕ → Unit {0} → Type 0 where
-    says : {answer : Routed} {chain : List ℕ} → Replies contacts m ranges k l n answer chain → Says s l n (answer_bytes answer chain) s
+    says : {answer : Result Best Refusal} {chain : List ℕ} → Replies contacts m ranges k l n answer chain → Says s l n (answer_bytes answer chain) s
 
   -- an input over 65,536 bytes is not gone through, nor one from a line number above that, which no shorter input has: the place stays, and no byte
   -- changes. Else the lines from byte `at` on are, the first of which has the place n in the input

@@ -1,19 +1,12 @@
 -- What the functions inside `write_answer` say. A reader of the promises may skip it.
---     line_bytes       a line's bytes: its word, numbers, and the first of some numbers more
 --     WritesLine      bytes are written into lent bytes
 -- Assumes nothing.
-use Rattle.std.specs.Prelude.{List, ◌++◌, ℕ, ◌≤◌, ◌<◌, length, take, drop}
+use Rattle.std.specs.Prelude.{List, ◌++◌, ℕ, ◌≤◌, ◌<◌, length, drop, Result, Ok, Err}
+use Rattle.units.specs.declared.Refusal.{Refusal}
 use Rattle.units.specs.declared.Refusal.TheVariants.{ShortOutput}
-use Rattle.text.specs.Lines.{glue_line}
-use Rattle.text.specs.Rows.{line_of}
-use Rattle.text.specs.declared.answer.Written.{Written}
-use Rattle.text.specs.declared.answer.Written.TheVariants.{Length, Refused}
-
-unfoldable pub line_bytes : List ℕ → List ℕ → List ℕ → ℕ → List ℕ
-line_bytes word first rest count = glue_line (line_of word (first ++ take count rest))
 
 -- 10 with their length where the output is shorter, and no lent byte changes; else their length: the first bytes of the output are then these, and
 -- only they change
-pub data WritesLine (bytes out : List ℕ) : Written → List ℕ → Type 0 where
-  too_short : length out < length bytes → WritesLine bytes out (Refused (ShortOutput (length bytes))) out
-  written : length bytes ≤ length out → WritesLine bytes out (Length (length bytes)) (bytes ++ drop (length bytes) out)
+pub data WritesLine (bytes out : List ℕ) : Result ℕ Refusal → List ℕ → Type 0 where
+  too_short : length out < length bytes → WritesLine bytes out (Err (ShortOutput (length bytes))) out
+  written : length bytes ≤ length out → WritesLine bytes out (Ok (length bytes)) (bytes ++ drop (length bytes) out)

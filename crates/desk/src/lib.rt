@@ -10,5 +10,5 @@ mod through;
 
 pub use answer::write_answer;
 pub use answering::answer_line;
-pub use ask::{AskRead, read_ask};
+pub use ask::{ask_of, read_ask};
 pub use through::{LONGEST, Reached, answer_lines};

@@ -8,11 +8,11 @@ ghost use Rattle.desk_lines.specs.Turn.{AnswersInto};
 ghost use Rattle.desk.specs.Through.{longest, Says, AnswersFrom};
 
 use crate::answering::answer_line;
-use text::Written;
+use plan::PlanTables;
 use text_lines::find;
 use units::MOST_TEXT;
 
-const LINE_FEED: u8 = 10;
+const LINE_FEED: u8 = b'\n';
 // The bytes of the longest answer.
 pub const LONGEST: usize = 305;
 
@@ -27,10 +27,7 @@ pub struct Reached {
 // The line answered behind the bytes used, and how many are used then. There is room for it, so that it
 // is not refused.
 fn answer_into(
-    contacts: &[u64],
-    m: usize,
-    ranges: &[u64],
-    n: usize,
+    tables: PlanTables,
     line: &[u8],
     ended: bool,
     number: u64,
@@ -38,20 +35,11 @@ fn answer_into(
     used: usize,
 ) -> usize
     requires { used + longest ≤ length out.old }
-    ensures { AnswersInto (Says contacts.now m ranges.now n) tt (line_in line.now ended) number out.old used tt result out.new }
+    ensures { AnswersInto (Says tables.entry.contacts.now tables.entry.contact_count tables.entry.ranges.now tables.entry.range_count) tt (line_in line.now ended) number out.old used tt result out.new }
 {
-    match answer_line(
-        contacts,
-        m,
-        ranges,
-        n,
-        line,
-        ended,
-        number,
-        &mut out[used..],
-    ) {
-        Written::Length(length) => used + length,
-        Written::Refused(_) => used,
+    match answer_line(tables, line, ended, number, &mut out[used..]) {
+        Ok(length) => used + length,
+        Err(_) => unreachable!(),
     }
 }
 
@@ -65,17 +53,14 @@ fn place_after(end: usize, length: usize) -> usize
 
 // The lines from byte `from` on answered, as long as one is left and the longest answer has room.
 fn answer_while_room(
-    contacts: &[u64],
-    m: usize,
-    ranges: &[u64],
-    n: usize,
+    tables: PlanTables,
     input: &[u8],
     from: usize,
     first: u64,
     out: &mut [u8],
 ) -> Reached
     requires { (length input.now ≤ most_text) × (first ≤ most_text) }
-    ensures { AnswersLines (Says contacts.now m ranges.now n) longest input.now tt from first out.old tt result.at result.number result.used out.new }
+    ensures { AnswersLines (Says tables.entry.contacts.now tables.entry.contact_count tables.entry.ranges.now tables.entry.range_count) longest input.now tt from first out.old tt result.at result.number result.used out.new }
 {
     let mut at = from;
     let mut number = first;
@@ -83,10 +68,7 @@ fn answer_while_room(
     while (at < input.len()) & (LONGEST <= out.len() - used) {
         let end = find(input, at, LINE_FEED);
         used = answer_into(
-            contacts,
-            m,
-            ranges,
-            n,
+            tables,
             &input[at..end],
             end < input.len(),
             number,
@@ -96,33 +78,26 @@ fn answer_while_room(
         at = place_after(end, input.len());
         number += 1;
     }
-    Reached {
-        at: at,
-        number: number,
-        used: used,
-    }
+    Reached { at, number, used }
 }
 
 // Answers the lines of an input from byte `from` on, the first of which has the place `first` in it, as
 // many as the lent bytes have room for. Too long an input, or too large a number, is not gone through.
 pub fn answer_lines(
-    contacts: &[u64],
-    m: usize,
-    ranges: &[u64],
-    n: usize,
+    tables: PlanTables,
     input: &[u8],
     from: usize,
     first: u64,
     out: &mut [u8],
 ) -> Reached
-    ensures { AnswersFrom contacts.now m ranges.now n input.now from first out.old result out.new }
+    ensures { AnswersFrom tables.entry.contacts.now tables.entry.contact_count tables.entry.ranges.now tables.entry.range_count input.now from first out.old result out.new }
 {
-    if (MOST_TEXT < input.len()) | ((MOST_TEXT as u64) < first) {
+    if MOST_TEXT < input.len() || (MOST_TEXT as u64) < first {
         return Reached {
             at: from,
             number: first,
             used: 0,
         };
     }
-    answer_while_room(contacts, m, ranges, n, input, from, first, out)
+    answer_while_room(tables, input, from, first, out)
 }

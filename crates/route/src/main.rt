@@ -4,17 +4,18 @@
 
 mod asks;
 mod output;
-mod reading;
 mod refusing;
 
 ghost use Rattle.std.specs.Counts.{IsPrefixLen};
 ghost use Rattle.route.specs.Receipts.{PlanDone};
 
-use output::Receipt;
-use reading::read_full;
+use asks::answer_input;
+use desk_input::read_full;
+use output::{PrintedAnswers, PrintedRefusal};
+use plan::PlanTables;
+use refusing::refuse;
 use std::fs;
 use std::rt::Files;
-use text::PlanRead;
 use text_read::read;
 use units::MOST_TEXT;
 
@@ -39,12 +40,20 @@ fn answer_over(
     text: &[u8],
     contacts: &mut [u64],
     ranges: &mut [u64],
-) -> Receipt
+) -> Result<PrintedAnswers, PrintedRefusal>
     ensures { PlanDone text.now contacts.old ranges.old contacts.new ranges.new result }
 {
     match read(text, contacts, ranges) {
-        PlanRead::Rows(m, n) => asks::answer_input(rt, contacts, m, ranges, n),
-        PlanRead::Refused(why) => refusing::refuse(rt, why),
+        Ok(counts) => {
+            let tables = PlanTables {
+                contacts,
+                contact_count: counts.contacts,
+                ranges,
+                range_count: counts.ranges,
+            };
+            answer_input(rt, tables)
+        }
+        Err(why) => Err(refuse(rt, why)),
     }
 }
 
@@ -53,5 +62,5 @@ fn main(rt: HostRuntime) {
     let mut contacts = [0u64; FULL];
     let mut ranges = [0u64; FULL];
     let length = load(&rt, &mut text);
-    answer_over(&rt, &text[..length], &mut contacts, &mut ranges);
+    let _ = answer_over(&rt, &text[..length], &mut contacts, &mut ranges);
 }

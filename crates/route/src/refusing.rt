@@ -1,21 +1,19 @@
 // A refusal alone: one line, and the end.
 ghost use Rattle.route.specs.Receipts.{Told};
 
-use crate::output::{Receipt, none_printed, print_refusal};
+use crate::output::{PrintedRefusal, print_refusal};
 use desk::{LONGEST, write_answer};
-use search::Routed;
-use text::Written;
-use units::{Refusal, number, place};
+use units::{Refusal, place};
 
 // The line of the refusal printed. There is room for it, so that it is not refused.
-pub fn refuse(rt: &impl Print, why: Refusal) -> Receipt
+pub fn refuse(rt: &impl Print, why: Refusal) -> PrintedRefusal
     ensures { Told why result }
 {
-    let no = number(why);
-    let at = place(why);
+    // That its place is a number of 64 bits is known once it is read.
+    let _ = place(why);
     let mut out = [0u8; LONGEST];
-    match write_answer(Routed::Refused(why), &[], &mut out) {
-        Written::Length(length) => print_refusal(rt, no, at, &out[..length]),
-        Written::Refused(_) => none_printed(),
-    }
+    let Ok(length) = write_answer(Err(why), &[], &mut out) else {
+        unreachable!()
+    };
+    print_refusal(rt, why, &out[..length])
 }

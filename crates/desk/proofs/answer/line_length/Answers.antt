@@ -18,5 +18,4 @@ unfolding most_chain
 overflow_add-result-3 c = search rules
 
 pub returns : goal.returns
-returns c =
-    line_counted _ _ _ _ c.requires.3 _ _ c.fields_length.ensures.0 c.fields_length-2.ensures.0
+returns c = line_counted _ _ _ _ _ c.fields_length.ensures.0 c.fields_length-2.ensures.0

@@ -7,15 +7,15 @@ use Rattle.desk.proofs.through.answer_into.Goals as goal
 pub overflow_add-result : goal.overflow_add-result
 overflow_add-result c =
     let at-answer = c.answer_line in
-    let answered = answered_into c.args.out.now c.args.used _ _ (omega arith) at-answer.ensures c.in-Length.is in
+    let answered = answered_into c.args.out.now c.args.used _ _ (omega arith) at-answer.ensures c.in-Ok.is in
     omega (arith, answered.fits)
 
-pub returns-in-Length : goal.returns-in-Length
-returns-in-Length c =
+pub returns : goal.returns
+returns c =
     let at-answer = c.answer_line in
-    answered_into c.args.out.now c.args.used _ _ (omega arith) at-answer.ensures c.in-Length.is
+    answered_into c.args.out.now c.args.used _ _ (omega arith) at-answer.ensures c.in-Ok.is
 
-pub returns-in-Refused : goal.returns-in-Refused
-returns-in-Refused c =
+pub unreachable-requires : goal.unreachable-requires
+unreachable-requires c =
     let at-answer = c.answer_line in
-    absurd (never_refused c.args.out.now c.args.used _ _ (omega arith) c.requires at-answer.ensures c.in-Refused.is)
+    (never_refused c.args.out.now c.args.used _ _ (omega arith) c.requires at-answer.ensures c.in-Err.is)

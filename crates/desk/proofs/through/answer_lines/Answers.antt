@@ -1,20 +1,18 @@
 -- `desk::through::answer_lines` meets its contract.
 -- Assumes nothing.
+use Rattle.std.proofs.Common.{inl, inr}
 use Rattle.units.specs.Limits.{most_text}
 use Rattle.desk.specs.Through.{not_taken, taken}
-use Rattle.desk.proofs.ThroughCode.{over_one, over_none}
 use Rattle.desk.proofs.through.answer_lines.Goals as goal
 
-pub returns-then-input-first : goal.returns-then-input-first
+pub returns-then-input-gt-MOST_TEXT : goal.returns-then-input-gt-MOST_TEXT
 unfolding most_text
-returns-then-input-first c = not_taken (over_one _ _ c.if-input-first.true)
+returns-then-input-gt-MOST_TEXT c = not_taken (elim c.then-input-gt-MOST_TEXT.either [ inl h ↦ inl h | inr h ↦ inr h.1 ])
 
 pub answer_while_room-requires : goal.answer_while_room-requires
 unfolding most_text
-answer_while_room-requires c = over_none _ _ c.if-input-first.false
+answer_while_room-requires c = (c.if-input-gt-MOST_TEXT.false, c.if-first.false)
 
 pub returns : goal.returns
 unfolding most_text
-returns c =
-    let within = over_none _ _ c.if-input-first.false in
-    taken within.0 within.1 c.answer_while_room.ensures
+returns c = taken c.if-input-gt-MOST_TEXT.false c.if-first.false c.answer_while_room.ensures

@@ -7,7 +7,7 @@ use Rattle.desk.specs.Through.{longest, Says}
 use Rattle.desk.proofs.through.answer_while_room.Given as goal
 
 abbrev pub invariant-loop-at : goal.invariant-loop-at
-invariant-loop-at l = SoFar (Says l.contacts l.m l.ranges l.n) longest l.input tt l.from l.first l.initial.out tt l.at l.number l.used l.out
+invariant-loop-at l = SoFar (Says l.tables.contacts.now l.tables.contact_count l.tables.ranges.now l.tables.range_count) longest l.input tt l.from l.first l.initial.out tt l.at l.number l.used l.out
 
 abbrev pub decreases-loop-at : goal.decreases-loop-at
 decreases-loop-at l = length l.input - l.at

@@ -6,8 +6,8 @@ use lib.ListN.{length}
 use Rattle.route.proofs.AsksCode.{SoFar}
 use Rattle.route.proofs.asks.answer_each.Given as goal
 
-abbrev pub invariant-loop-out : goal.invariant-loop-out
-invariant-loop-out g l = SoFar l.contacts l.m l.ranges l.n l.input l.printed × (length l.out ≡ length l.initial.out)
+abbrev pub invariant-loop-tables : goal.invariant-loop-tables
+invariant-loop-tables g l = SoFar l.tables.contacts.now l.tables.contact_count l.tables.ranges.now l.tables.range_count l.input l.printed × (length l.out ≡ length l.initial.out)
 
-abbrev pub decreases-loop-out : goal.decreases-loop-out
-decreases-loop-out g l = length l.input - l.printed.at
+abbrev pub decreases-loop-tables : goal.decreases-loop-tables
+decreases-loop-tables g l = length l.input - l.printed.at

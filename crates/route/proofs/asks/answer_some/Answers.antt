@@ -7,17 +7,17 @@ use Rattle.route.proofs.asks.answer_some.Goals as goal
 
 pub slice_bounds-print_answers-end : goal.slice_bounds-print_answers-end
 slice_bounds-print_answers-end g c =
-    used_within c.args.printed c.answer_lines-reached.ensures c.printed_to-at.ensures c.line_there-line.ensures c.requires.0 c.requires.2
+    used_within c.args.printed c.answer_lines-reached.ensures c.at-at.ensures c.line-line.ensures c.requires.0 c.requires.2
 
 pub slice_bounds-print_answers-end-2 : goal.slice_bounds-print_answers-end-2
 slice_bounds-print_answers-end-2 g c = sym (length-take-le _ _ (slice_bounds-print_answers-end g c))
 
 pub print_answers-requires : goal.print_answers-requires
 print_answers-requires g c =
-    part_from c.args.printed c.answer_lines-reached.ensures c.printed_to-at.ensures c.line_there-line.ensures c.requires.0 c.requires.2
+    part_from c.args.printed c.answer_lines-reached.ensures c.at-at.ensures c.line-line.ensures c.requires.0 c.requires.2
 
 pub returns : goal.returns
 returns g c =
     let printed = c.print_answers.ensures in
-    further_from c.args.printed c.answer_lines-reached.ensures c.printed_to-at.ensures c.line_there-line.ensures c.requires.0 c.requires.2
-    c.print_answers.result c.requires.1 c.requires.3 printed.0 printed.1 printed.2
+    further_from c.args.printed c.answer_lines-reached.ensures c.at-at.ensures c.line-line.ensures c.requires.0 c.requires.2
+    c.print_answers.result c.requires.1 c.requires.3 printed.at printed.line

@@ -1,9 +1,9 @@
--- `route::reading::read_full` meets its contract. The loop's invariant: no more is read than there is room for, which stays.
+-- `desk_input::read_full` meets its contract. The loop's invariant: no more is read than there is room for, which stays.
 -- Assumes nothing.
 use mathlib.Core.Path.{◌≡◌}
 use Prim.Native.Nat.{◌≤◌, ◌-◌}
 use lib.ListN.{length}
-use Rattle.route.proofs.reading.read_full.Given as goal
+use Rattle.desk_input.proofs.read_full.Given as goal
 
 abbrev pub invariant-loop-done : goal.invariant-loop-done
 invariant-loop-done g l = (l.done ≤ length l.buf) × (length l.buf ≡ length l.initial.buf)
