@@ -58,7 +58,7 @@ module _ (call : CheckedCall) where
     its_book = subst (λ (m : ℕ). IsBook m call.book.places.now call.book.chains.now) call.same_count call.book.good;
     ask_is_good = call.ask.good;
     good_class = call.good_class;
-    differ = call.ask.differ;
+    differ = call.differ;
   }
 
   pub call_holds : Holds call.plan.tables.contacts.now call.plan.tables.contact_count call.plan.tables.ranges.now call.plan.tables.range_count

@@ -15,4 +15,5 @@ pub struct CheckedCall<'a> {
     pub class: u64,
     pub ghost same_count: { book.contact_count ≡ plan.tables.contact_count },
     pub ghost good_class: { GoodClass class },
+    pub ghost differ: { ask.asked.source.0 ≡ ask.asked.destination.0 → ⊥ },
 }

@@ -12,11 +12,10 @@ use lib.Dec.{ltb}
 use lib.ListN.{length, take, drop}
 use lib.Seq.{take_at}
 use Rattle.std.specs.Prelude.{Result, Ok, Err}
-use Rattle.units.specs.Checked as Checked
-use Rattle.units.specs.Checked.{ChecksAsk}
 use Rattle.units.specs.Limits.{most_chain}
 use Rattle.units.specs.declared.Ask.{Ask}
 use Rattle.units.specs.declared.Millis.{Millis}
+use Rattle.std.specs.Result.{IsErrAnd}
 use Rattle.units.specs.declared.Refusal.{Refusal}
 use Rattle.units.specs.declared.Refusal.TheVariants.{NoPlan, TooLate}
 use Rattle.units.specs.declared.asks.CheckedAsk.{CheckedAsk}
@@ -99,29 +98,22 @@ module _ (p : Service) (valid : Sound p) (ask : Ask) (good : GoodAsk ask) (diffe
   unfolding route_model answer_of
   answer_best f e = rw (is_chain, e, chain_front)
 
--- what is told where the ask is checked so: the refusal and the chain as it was, or the answer of the model
-abbrev pub Told : PlanTables → List ℕ → List ℕ → Result CheckedAsk Refusal → Result Best Refusal → Type 0
-Told tables before after (Ok ask) r = (r ≡ route_model (service_of (plan_in tables) unused) ask.asked)
-    × (after ≡ route_after (service_of (plan_in tables) unused) ask.asked before)
-Told tables before after (Err why) r = (r ≡ Err why) × (after ≡ before)
+-- the exit of a `?` hands the refusal on
+pub hands_on : {A : Type 0} (why : Refusal) (r : Result A Refusal) → IsErrAnd r (λ e. e ≡ why) → r ≡ Err why
+hands_on why (Ok x) same = absurd same
+hands_on why (Err e) same = ap Err same
 
 abbrev RoutesTables : PlanTables → Ask → List ℕ → Result Best Refusal → List ℕ → Type 0
 RoutesTables t ask before r after = Routes t.contacts.now t.contact_count t.ranges.now t.range_count ask before r after
 
-pub routes_no_plan : (tables : PlanTables) (ask : Ask) (before : List ℕ) (r : Result Best Refusal) → most_chain ≤ length before → (HoldPlan tables → ⊥) → r ≡ Err NoPlan
-    → RoutesTables tables ask before r before
-routes_no_plan tables ask before r room none e = subst (λ (q : Result Best Refusal). RoutesTables tables ask before q before) (sym e) (no_plan room none)
-
-module _ (tables : PlanTables) (ask : Ask) (before after : List ℕ) (r : Result Best Refusal) (room : most_chain ≤ length before) where
-  routes_held : HoldPlan tables → {c : Result CheckedAsk Refusal} → ChecksAsk ask c → Told tables before after c r → RoutesTables tables ask before r after
-  routes_held plan (Checked.bad_ask n) e = subst₂ (RoutesTables tables ask before) (sym e.0) (sym e.1) (bad_ask room plan n)
-  routes_held plan (Checked.same_node g s) e = subst₂ (RoutesTables tables ask before) (sym e.0) (sym e.1) (same_node room plan g s)
-  routes_held plan (Checked.checked {c} same) e =
-      let answer = route_model_routes _ c.asked before (service_sound _ plan.valid unused) c.good c.differ in
-      subst (λ (a : Ask). RoutesTables tables a before r after) same
-      (routed room plan c.good c.differ (subst₂ (RoutesPlan _ c.asked before) (sym e.0) (sym e.1) answer))
-
-  pub routes_checked : (plan : CheckedPlan) → plan.tables ≡ tables → {c : Result CheckedAsk Refusal} → ChecksAsk ask c → Told plan.tables before after c r
-      → RoutesTables tables ask before r after
-  routes_checked plan same {c} asked told =
-      routes_held (subst HoldPlan same plan.valid) asked (subst (λ (t : PlanTables). Told t before after c r) same told)
+-- the promise, where the plan and the ask were checked and the nodes differ
+pub routes_checked : (tables : PlanTables) (ask : Ask) (before after : List ℕ) → most_chain ≤ length before → (plan : CheckedPlan) → plan.tables ≡ tables
+    → (asked : CheckedAsk) → asked.asked ≡ ask → (ask.source.0 ≡ ask.destination.0 → ⊥) → (r : Result Best Refusal)
+    → r ≡ route_model (service_of (plan_in plan.tables) unused) asked.asked → after ≡ route_after (service_of (plan_in plan.tables) unused) asked.asked before
+    → RoutesTables tables ask before r after
+routes_checked tables ask before after room plan same asked same' differ r e stands =
+    let apart = subst (λ (a : Ask). a.source.0 ≡ a.destination.0 → ⊥) (sym same') differ in
+    let answer = route_model_routes _ asked.asked before (service_sound _ plan.valid.valid unused) asked.good apart in
+    subst (λ (t : PlanTables). RoutesTables t ask before r after) same
+    (subst (λ (a : Ask). RoutesTables plan.tables a before r after) same'
+    (routed room plan.valid asked.good apart (subst₂ (RoutesPlan _ asked.asked before) (sym e) (sym stands) answer)))

@@ -22,7 +22,7 @@ pub fn route_served(
     ask: CheckedAsk,
     chain: &mut [u64],
 ) -> Result<Best, Refusal>
-    requires { most_chain ≤ length chain.old }
+    requires { (ask.asked.source.0 ≡ ask.asked.destination.0 → ⊥) × (most_chain ≤ length chain.old) }
     ensures best { result ≡ route_model (service_in service.now) ask.asked }
     ensures chain { chain.new ≡ route_after (service_in service.now) ask.asked chain.old }
 {
@@ -40,7 +40,7 @@ fn route_plan(
     ask: CheckedAsk,
     chain: &mut [u64],
 ) -> Result<Best, Refusal>
-    requires { most_chain ≤ length chain.old }
+    requires { (ask.asked.source.0 ≡ ask.asked.destination.0 → ⊥) × (most_chain ≤ length chain.old) }
     ensures best { result ≡ route_model (service_of (plan_in plan.now.tables) unused) ask.asked }
     ensures chain { chain.new ≡ route_after (service_of (plan_in plan.now.tables) unused) ask.asked chain.old }
 {
@@ -58,7 +58,14 @@ pub fn route(tables: PlanTables, ask: Ask, chain: &mut [u64]) -> Result<Best, Re
     if chain.len() < MOST_CHAIN {
         return Err(Refusal::ShortChain);
     }
-    let plan = CheckedPlan::of(tables).ok_or(Refusal::NoPlan)?;
-    let asked = CheckedAsk::of(ask)?;
+    let Some(plan) = CheckedPlan::of(tables) else {
+        return Err(Refusal::NoPlan);
+    };
+    let Some(asked) = CheckedAsk::of(ask) else {
+        return Err(Refusal::AskValue);
+    };
+    if ask.source == ask.destination {
+        return Err(Refusal::SameNode);
+    }
     route_plan(&plan, asked, chain)
 }

@@ -58,6 +58,7 @@ invariant_of-result c =
     record {
       same_count = (book_same c.checked.ensures.same book).2 ∙ sym (ap (λ t. t.contact_count) (plan_same _ c.of.ensures plan));
       good_class = class_good (omega arith) (omega arith);
+      differ = eqb-false _ _ (sym c.eq.ensures ∙ c.if-eq.false);
     }
 
 pub returns : goal.returns

@@ -1,40 +1,41 @@
 -- `search::routing::route` meets its contract.
 -- Assumes nothing.
-use mathlib.Core.Path.{◌≡◌, refl, ap, ◌∙◌}
-use Rattle.std.specs.Prelude.{Err}
+use mathlib.Core.Path.{◌≡◌, sym, ◌∙◌, subst}
+use borrow.Author.Tests.{eqb-true, eqb-false}
+use Rattle.units.specs.Asks.{GoodAsk}
+use Rattle.units.specs.declared.Ask.{Ask}
 use Rattle.units.specs.Limits.{most_chain}
-use Rattle.units.specs.declared.Refusal.TheVariants.{NoPlan}
-use Rattle.walk.proofs.WalkCode.{hands_on}
-use Rattle.search.specs.Route.{short_chain}
-use Rattle.search.proofs.RouteCode.{routes_no_plan, routes_checked}
+use Rattle.plan.specs.Lent.{HoldPlan}
+use Rattle.search.specs.Route.{short_chain, no_plan, bad_ask, same_node}
+use Rattle.search.proofs.RouteCode.{routes_checked}
 use Rattle.search.proofs.routing.route.Goals as goal
 
 pub returns-then-chain-lt-MOST_CHAIN : goal.returns-then-chain-lt-MOST_CHAIN
 unfolding most_chain
 returns-then-chain-lt-MOST_CHAIN c = short_chain c.if-chain-lt-MOST_CHAIN.true
 
-pub returns-in_err-plan : goal.returns-in_err-plan
+pub returns-in_default : goal.returns-in_default
 unfolding most_chain
-returns-in_err-plan c =
-    let none = rw c.in_err-plan.ensures.ok_part at c.of.ensures in
-    let told = rw c.in_err-plan.ensures.ok_part at c.in_err-plan.ensures.value in
-    let why : c.in_err-plan.field-0.0 ≡ NoPlan = cc told in
-    routes_no_plan c.args.tables _ _ _ c.if-chain-lt-MOST_CHAIN.false none (hands_on c.in_err-plan.field-0.0 c.from_residual.result c.from_residual.ensures.1 ∙ ap Err why)
+returns-in_default c = no_plan c.if-chain-lt-MOST_CHAIN.false c.in_default.ensures
 
-pub returns-in_err-asked : goal.returns-in_err-asked
+pub returns-in_default-of : goal.returns-in_default-of
 unfolding most_chain
-returns-in_err-asked c =
-    let same = rw c.in_ok-plan.ensures.ok_part at c.of.ensures in
-    routes_checked c.args.tables _ _ _ _ c.if-chain-lt-MOST_CHAIN.false c.in_ok-plan.plan same c.in_err-asked.ensures
-    (hands_on c.in_err-asked.field-0.0 c.from_residual-in_err-asked.result c.from_residual-in_err-asked.ensures.1, refl)
+returns-in_default-of c =
+    bad_ask c.if-chain-lt-MOST_CHAIN.false (subst HoldPlan c.in-Some.ensures c.in-Some.plan.valid) c.in_default-of.ensures
+
+pub returns-then-eq : goal.returns-then-eq
+unfolding most_chain
+returns-then-eq c =
+    same_node c.if-chain-lt-MOST_CHAIN.false (subst HoldPlan c.in-Some.ensures c.in-Some.plan.valid) (subst GoodAsk c.in-Some-of.ensures c.in-Some-of.asked.good)
+    (eqb-true _ _ (sym c.eq.ensures ∙ c.if-eq.true))
 
 pub route_plan-requires : goal.route_plan-requires
 unfolding most_chain
-route_plan-requires c = c.if-chain-lt-MOST_CHAIN.false
+route_plan-requires c =
+    (subst (λ (a : Ask). a.source.0 ≡ a.destination.0 → ⊥) (sym c.in-Some-of.ensures) (eqb-false _ _ (sym c.eq.ensures ∙ c.if-eq.false)), c.if-chain-lt-MOST_CHAIN.false)
 
 pub returns : goal.returns
 unfolding most_chain
 returns c =
-    let same = rw c.in_ok-plan.ensures.ok_part at c.of.ensures in
-    routes_checked c.args.tables _ _ _ _ c.if-chain-lt-MOST_CHAIN.false c.in_ok-plan.plan same c.in_ok-asked.ensures
-    (c.route_plan.ensures.best, c.route_plan.ensures.chain)
+    routes_checked _ _ _ _ c.if-chain-lt-MOST_CHAIN.false c.in-Some.plan c.in-Some.ensures c.in-Some-of.asked c.in-Some-of.ensures
+    (eqb-false _ _ (sym c.eq.ensures ∙ c.if-eq.false)) _ c.route_plan.ensures.best c.route_plan.ensures.chain
