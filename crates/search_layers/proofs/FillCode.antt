@@ -6,14 +6,14 @@
 --     older_begin, older_kept, older_next      the row that row k is compared with: at first a blank one, then the row before
 -- Assumes nothing.
 use mathlib.Core.List.{List, ◌∷◌, map}
-use mathlib.Core.Logic.{inl, inr, ⊎_elim}
+use mathlib.Core.Logic.{inr, ⊎_elim}
 use mathlib.Core.Path.{◌≡◌, refl, sym, ap, ◌∙◌, subst}
 use Prim.Native.Nat.{ℕ, zero, suc, ◌+◌, ◌-◌, ◌*◌, ◌≤◌, ◌<◌}
 use native.Mathlib.Nat.{le_refl, eq-or-lt_of_le, le_of_suc-le-suc, not-suc-le-zero, zero-mul, mul-le-mul_right}
 use native.Mathlib.Numerals.{add-one}
 use native.Mathlib.Omega.{arith}
 use lib.Dec.{lit≤}
-use lib.ListN.{length, get_or, set, take, drop, replicate, length-set, length-replicate, get_or-replicate}
+use lib.ListN.{length, get_or, set, take, drop, replicate, length-replicate, get_or-replicate}
 use Rattle.units.specs.declared.Ask.{Ask}
 use Rattle.units.specs.Limits.{last_time, most_light, most_nodes}
 use Rattle.plan.specs.Plan.{Each}

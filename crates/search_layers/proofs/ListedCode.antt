@@ -7,7 +7,7 @@
 use mathlib.Core.List.{List}
 use mathlib.Core.Logic.{inl, inr}
 use mathlib.Core.Path.{◌≡◌, sym, ap, ◌∙◌, subst}
-use Prim.Native.Nat.{ℕ, suc, ◌+◌, ◌-◌, ◌*◌, ◌≤◌, ◌<◌}
+use Prim.Native.Nat.{ℕ, suc, ◌+◌, ◌-◌, ◌≤◌, ◌<◌}
 use native.Mathlib.Decide.{dec_le, ℕ_discrete}
 use native.Mathlib.Omega.{arith}
 use lib.ListN.{length, get_or}
@@ -23,7 +23,7 @@ use Rattle.service.specs.Service.{InPlan}
 use Rattle.service.proofs.Bounded.{contact_good}
 use Rattle.service.proofs.HeldLaws.{held_sound, held_counted, held_named, held_contact}
 use Rattle.network.specs.Model.{relax}
-use Rattle.network.specs.Network.{Network, IsContact}
+use Rattle.network.specs.Network.{IsContact}
 use Rattle.search_layers.specs.declared.contact_network.ContactNetwork.{ContactNetwork}
 use Rattle.search_layers.specs.declared.rows.Layers.{Layers}
 use Rattle.search_layers.specs.Bridge.{network_of}

@@ -51,7 +51,12 @@ pub fn fill(service: &ServedPlan, ask: CheckedAsk, layers: &mut Layers) -> usize
 {
     let mut heads = [BLANK; NODES];
     let mut nexts = [BLANK; MOST_ROWS];
-    link_from(service.contacts, service.contact_count, &mut heads, &mut nexts);
+    link_from(
+        service.contacts,
+        service.contact_count,
+        &mut heads,
+        &mut nexts,
+    );
     let net = ContactNetwork {
         service: *service,
         ask,

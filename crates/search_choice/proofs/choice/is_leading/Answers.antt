@@ -1,6 +1,6 @@
 -- `search_choice::choice::is_leading` meets its contract.
 -- Assumes nothing.
-use mathlib.Core.Path.{◌≡◌, sym, ◌∙◌}
+use mathlib.Core.Path.{◌≡◌, ◌∙◌}
 use Rattle.std.proofs.Common.{rules}
 use Rattle.walk.specs.Model.{is_before}
 use Rattle.search_layers.proofs.ReadCode.{Read, read_by}
