@@ -27,7 +27,6 @@ use Rattle.search_layers.specs.Words.{never_word, when_word, row_of, FirstRow}
 use Rattle.search_layers.proofs.FillCode.{inside}
 use Rattle.search_layers.proofs.RowLaws.{when_never, when_below, when_time, time_below, time_most, time_row, get_d_layer}
 use Rattle.search_choice.specs.Model.{chain_of}
-use Rattle.search.specs.declared.answer.Found.TheVariants.{Chain, Nothing}
 use Rattle.search.specs.Model.{found_of, find_model, chain_after, route_after}
 
 when_injective : (a b : ℕ) → a ≤ never_word → b ≤ never_word → when_word a ≡ when_word b → a ≡ b
