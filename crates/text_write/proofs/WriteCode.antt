@@ -17,9 +17,6 @@ use Rattle.text_write.specs.Model.{Wrote, row_bytes}
 use Rattle.text_write.proofs.LengthCode.{text_parts}
 use Rattle.text_write.proofs.PutCode.{wrote_front, Onward, onward_start, onward_room, onward_step, onward_as}
 
-pub plan_room : {p q : Plan} (out : List ℕ) → p ≡ q → length (render p) ≤ length out → length (render q) ≤ length out
-plan_room out e h = subst (λ (r : Plan). length (render r) ≤ length out) e h
-
 module _ (out contacts : List ℕ) (m : ℕ) (ranges : List ℕ) (n : ℕ) where
   module _ (room : length (text_of contacts m ranges n) ≤ length out) where
     begun : Onward out 0 (text_of contacts m ranges n) out 0 (header ++ (row_bytes contact_word contacts 0 m ++ row_bytes range_word ranges 0 n))

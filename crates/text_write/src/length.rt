@@ -1,12 +1,13 @@
 // How long a plan's text is.
 ghost use Rattle.std.specs.Prelude.{◌≡◌, ◌*◌, ◌≤◌, length};
+ghost use Rattle.plan.specs.Lent.{plan_in};
 ghost use Rattle.plan.specs.Tables.{words};
 ghost use Rattle.text.specs.Digits.{decimal};
 ghost use Rattle.text.specs.Rows.{render};
 ghost use Rattle.text_write.specs.Model.{field_bytes, row_bytes};
 
 use plan::WORDS;
-use plan_valid::Plan;
+use plan_valid::CheckedPlan;
 
 // How many decimal digits the number has.
 fn digits(n: u64) -> usize
@@ -41,10 +42,10 @@ fn rows_length(word: &[u8], table: &[u64], n: usize) -> usize
 }
 
 // How long the plan's text is.
-pub fn text_length(plan: &Plan) -> usize
-    ensures { result ≡ length (render plan.now) }
+pub fn text_length(plan: &CheckedPlan) -> usize
+    ensures { result ≡ length (render (plan_in plan.now.tables)) }
 {
-    let tables = plan.tables();
+    let tables = plan.tables;
     7 + rows_length(b"contact", tables.contacts, tables.contact_count)
         + rows_length(b"range", tables.ranges, tables.range_count)
 }

@@ -1,5 +1,6 @@
 // The public call `write`: the text of the plan that lent tables hold.
 ghost use Rattle.std.specs.Prelude.{◌≤◌, length};
+ghost use Rattle.plan.specs.Lent.{plan_in};
 ghost use Rattle.text.specs.Calls.{Writes};
 ghost use Rattle.text.specs.Rows.{render};
 ghost use Rattle.text_write.specs.Model.{Wrote};
@@ -7,15 +8,15 @@ ghost use Rattle.text_write.specs.Model.{Wrote};
 use crate::length::text_length;
 use crate::put::{put_bytes, put_rows};
 use plan::PlanTables;
-use plan_valid::Plan;
+use plan_valid::CheckedPlan;
 use units::Refusal;
 
 // The header, the lines of the contacts and those of the ranges.
-fn put_plan(out: &mut [u8], plan: &Plan) -> usize
-    requires { length (render plan.now) ≤ length out.old }
-    ensures { Wrote out.old 0 (render plan.now) out.new result }
+fn put_plan(out: &mut [u8], plan: &CheckedPlan) -> usize
+    requires { length (render (plan_in plan.now.tables)) ≤ length out.old }
+    ensures { Wrote out.old 0 (render (plan_in plan.now.tables)) out.new result }
 {
-    let tables = plan.tables();
+    let tables = plan.tables;
     let first = put_bytes(out, 0, b"plan\t1\n");
     let second = put_rows(
         out,
@@ -43,7 +44,7 @@ pub fn write(
         ranges,
         range_count,
     };
-    let Some(plan) = Plan::checked(tables) else {
+    let Some(plan) = CheckedPlan::of(tables) else {
         return Err(Refusal::NoPlan);
     };
     let needed = text_length(&plan);

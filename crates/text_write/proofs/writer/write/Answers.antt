@@ -1,5 +1,7 @@
 -- `text_write::writer::write` meets its contract.
 -- Assumes nothing.
+use Rattle.std.proofs.Common.{ap, subst}
+use Rattle.plan.specs.Lent.{plan_in, HoldPlan}
 use Rattle.text.specs.Calls.{no_plan}
 use Rattle.text_write.proofs.WriteCode.{write_short, write_done}
 use Rattle.text_write.proofs.writer.write.Goals as goal
@@ -9,9 +11,9 @@ returns-in_default c = no_plan c.in_default.ensures
 
 pub returns-then-out-needed : goal.returns-then-out-needed
 returns-then-out-needed c =
-    write_short _ _ _ _ _ c.in-Some.ensures.0 _ c.in-Some.ensures.1 _ c.text_length-needed.ensures c.if-out-needed.true
+    write_short _ _ _ _ _ (subst HoldPlan c.in-Some.ensures c.in-Some.plan.valid) _ (ap plan_in c.in-Some.ensures) _ c.text_length-needed.ensures c.if-out-needed.true
 
 pub returns : goal.returns
 returns c =
-    write_done _ _ _ _ _ c.in-Some.ensures.0 _ c.in-Some.ensures.1 _ c.text_length-needed.ensures c.if-out-needed.false _ _
+    write_done _ _ _ _ _ (subst HoldPlan c.in-Some.ensures c.in-Some.plan.valid) _ (ap plan_in c.in-Some.ensures) _ c.text_length-needed.ensures c.if-out-needed.false _ _
     c.put_plan.ensures
