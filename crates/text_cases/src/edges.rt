@@ -1,5 +1,6 @@
 // What no text can show: tables with too few rows, tables that are no plan, and output that is too short.
 use crate::one::{counts, end, length};
+use plan::PlanTables;
 use text_read::read;
 use text_write::write;
 
@@ -13,12 +14,16 @@ fn few_rows(rt: &impl Print, few: &mut [u64], full: &mut [u64]) {
 
 // `write` of a count above 512, of a count above the rows lent, and of the empty plan.
 fn written(rt: &impl Print, table: &[u64], out: &mut [u8]) {
-    length(rt, write(table, 513, table, 0, out));
-    end(rt, true);
-    length(rt, write(table, 0, table, 512, out));
-    end(rt, true);
-    length(rt, write(table, 0, table, 0, out));
-    end(rt, true);
+    for (contact_count, range_count) in [(513, 0), (0, 512), (0, 0)] {
+        let tables = PlanTables {
+            contacts: table,
+            contact_count,
+            ranges: table,
+            range_count,
+        };
+        length(rt, write(tables, out));
+        end(rt, true);
+    }
 }
 
 pub fn all(rt: &impl Print) {

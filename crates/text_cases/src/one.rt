@@ -1,5 +1,6 @@
 // One text: what `read` answers, whether the lent words after the rows stayed, and whether `write` gives
 // the bytes back.
+use plan::PlanTables;
 use text::Counts;
 use text_read::read;
 use text_write::write;
@@ -43,12 +44,10 @@ fn refused(rt: &impl Print, why: Refusal) {
 fn back_into(
     rt: &impl Print,
     text: &[u8],
-    contacts: &[u64],
-    ranges: &[u64],
-    counts: Counts,
+    tables: PlanTables,
     out: &mut [u8],
 ) {
-    match write(contacts, counts.contacts, ranges, counts.ranges, out) {
+    match write(tables, out) {
         Ok(k) => {
             if out.get(..k).is_some_and(|bytes| bytes == text) {
                 field(rt, k as u64);
@@ -58,9 +57,9 @@ fn back_into(
     }
 }
 
-fn back(rt: &impl Print, text: &[u8], contacts: &[u64], ranges: &[u64], counts: Counts) {
+fn back(rt: &impl Print, text: &[u8], tables: PlanTables) {
     let mut out = [0u8; 46_088];
-    back_into(rt, text, contacts, ranges, counts, &mut out);
+    back_into(rt, text, tables, &mut out);
 }
 
 // The two counts, or the refusal.
@@ -99,7 +98,13 @@ fn show(
         ranges: 0,
     };
     if let Ok(read) = answer {
-        back(rt, text, contacts, ranges, read);
+        let tables = PlanTables {
+            contacts,
+            contact_count: read.contacts,
+            ranges,
+            range_count: read.ranges,
+        };
+        back(rt, text, tables);
         filled = read;
     }
     let kept = is_kept(contacts, filled.contacts) & is_kept(ranges, filled.ranges);
