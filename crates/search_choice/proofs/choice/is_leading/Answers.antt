@@ -16,5 +16,6 @@ pub returns : goal.returns
 returns c =
     let read : Read _ _ _ = read_by _ _ _ c.contact-pass.ensures.is c.contact-pass.ensures.good in
     let before : c.is_some_and.result ≡ is_before c.arrive.result c.args.limit.0 = search rules in
+    let same : c.contact-pass.result.to.0 ≡ c.args.node.0 = search (rules, c.if-ne.ensures) in
     before
-    ∙ leads_by _ _ c.args.layers.now _ _ _ _ _ c.requires.2 read (search (rules, c.if-ne.ensures)) c.requires.1 _ _ c.get-ready.ensures.time c.arrive.ensures.time
+    ∙ leads_by _ _ c.args.layers.now _ _ _ _ _ c.requires.2 read same c.requires.1 _ _ c.get-ready.ensures.time c.arrive.ensures.time

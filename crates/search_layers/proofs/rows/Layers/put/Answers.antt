@@ -23,4 +23,4 @@ invariant_of-self c = record {
 }
 
 pub returns : goal.returns
-returns c = ap (λ i. set c.args.self.now.words i c.args.time.0) c.place-at.ensures.0
+returns c = ap (λ i. set c.args.self.now.words.now i c.args.time.0) c.place-at.ensures.0

@@ -17,4 +17,4 @@ unfolding most_nodes
 bounds-self-place c = omega (arith, c.place.ensures)
 
 pub returns : goal.returns
-returns c = ap (λ i. get_or c.args.self.now.words i 0) c.place.ensures.0 ∙ sym (get_d_row _ _ _ _ (node_below _ c.requires.1))
+returns c = ap (λ i. get_or c.args.self.now.words.now i 0) c.place.ensures.0 ∙ sym (get_d_row _ _ _ _ (node_below _ c.requires.1))
