@@ -8,7 +8,7 @@
 --     freed_place                      a booking is released
 -- Assumes nothing.
 use mathlib.Core.List.{List}
-use mathlib.Core.Path.{◌≡◌, refl, sym, ap, ◌∙◌, subst, subst₂}
+use mathlib.Core.Path.{◌≡◌, refl, sym, ap, ◌∙◌, subst}
 use Prim.Native.Nat.{ℕ, suc, ◌+◌, ◌-◌, ◌≤◌}
 use native.Mathlib.Omega.{arith}
 use lib.ListN.{length, take}
@@ -37,7 +37,6 @@ use Rattle.calls.specs.declared.call.CheckedCall.{CheckedCall}
 use Rattle.calls.proofs.CallCode.{call_routed, call_good, call_holds}
 use Rattle.calls_book.specs.Model.{RefusedFor, Bookable}
 use Rattle.calls_book.specs.Placing.{booking_of, BooksRoute, not_routed, full, placed, OpenAt, Releases, released}
-use Rattle.calls_book.specs.declared.answers.Placed.{Placed}
 use Rattle.calls_book.proofs.ChosenLaws.{chosen_room, chosen_booking}
 
 -- a route that is refused leaves the lent chain as it is
