@@ -18,7 +18,6 @@ use Rattle.units.specs.declared.Refusal.{Refusal}
 use Rattle.service.specs.Service.{Service, Sound}
 use Rattle.timing.specs.Chain.{Carries, stays, hops, Allowed, InTime, ask_at, ask_of}
 use Rattle.timing.specs.Hop.{is_barred}
-use Rattle.walk.specs.declared.figures.Figures.{Figures}
 use Rattle.walk.specs.Figures.{IsLastCall, IsRoom, HasFigures}
 use Rattle.units.specs.Asks.{GoodAsk}
 use Rattle.walk.proofs.Theorems.{figures_bounded}
