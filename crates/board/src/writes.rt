@@ -2,6 +2,7 @@
 ghost use Rattle.board.specs.Faces.{BoardWrites};
 
 use board_face::answer_call;
+use plan::PlanTables;
 use text_write::write;
 
 // Writes the text of the plan that the tables hold.
@@ -16,8 +17,11 @@ pub extern "C" fn oivarnum_write(
 ) -> u64
     ensures { BoardWrites contacts.now contact_count ranges.now range_count out.old answer.old result out.new answer.new }
 {
-    answer_call(
-        answer,
-        &mut || write(contacts, contact_count, ranges, range_count, out),
-    )
+    let tables = PlanTables {
+        contacts,
+        contact_count,
+        ranges,
+        range_count,
+    };
+    answer_call(answer, &mut || write(tables, out))
 }
