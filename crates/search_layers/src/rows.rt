@@ -26,6 +26,7 @@ fn place(k: usize, node: NodeNo) -> usize
 
 // 64 layers of 64 nodes. A word is a time, or NEVER and not an Option, for fixed memory: an Option is twice
 // as long as its time.
+#[derive(Drop)]
 pub struct Layers<'a> {
     pub words: &'a mut [u64],
     pub ghost full: { length words.now ≡ most_nodes * most_nodes },
