@@ -66,16 +66,3 @@ pub fn is_book(book: &[u64], booked: &[u16], contact_count: usize) -> bool
 {
     Book::checked(book, booked, contact_count).is_some()
 }
-
-// The same as `Book::spend`, where the tables are not yet a `Book`.
-pub fn spend(book: &[u64], booked: &[u16], contact_count: usize, class: u64, lefts: &mut [u64])
-    requires { IsBook contact_count book.now booked.now × (contact_count ≤ length lefts.old) }
-    ensures { Spent (used (book_of book.now booked.now) class) lefts.old lefts.new }
-{
-    let held = Book {
-        places: book,
-        chains: booked,
-        contact_count,
-    };
-    held.spend(class, lefts);
-}

@@ -9,6 +9,6 @@ mod books;
 mod places;
 mod tables;
 
-pub use books::{Book, is_book, spend};
+pub use books::{Book, is_book};
 pub use places::{FREE, OPEN, PLACE_WORDS, is_open, mark_of};
 pub use tables::BookTables;
