@@ -16,7 +16,6 @@ use Rattle.units.specs.Checked as Checked
 use Rattle.units.specs.Checked.{ChecksAsk}
 use Rattle.units.specs.Limits.{most_chain}
 use Rattle.units.specs.declared.Ask.{Ask}
-use Rattle.units.specs.declared.Millis.{Millis}
 use Rattle.units.specs.declared.Refusal.{Refusal}
 use Rattle.units.specs.declared.Refusal.TheVariants.{NoPlan, TooLate}
 use Rattle.units.specs.declared.asks.CheckedAsk.{CheckedAsk}
@@ -57,8 +56,9 @@ found_at p ask (at r) found e = go (ltb r ask.deadline.0) e
     go : (early : Bool) → cond early (Ok (record { delivered = record { 0 = r }; count = length (chain_of p ask r) })) (Err TooLate) ≡ Ok found
         → (at r ≡ at found.delivered.0) × (found.count ≡ length (chain_of p ask found.delivered.0))
     go true e =
-        let q : r ≡ found.delivered.0 = cc in
-        let n : length (chain_of p ask r) ≡ found.count = cc in
+        let same : ◌≡◌ {A = Found} (record { delivered = record { 0 = r }; count = length (chain_of p ask r) }) found = cc in
+        let q : r ≡ found.delivered.0 = ap (λ (f : Found). f.delivered.0) same in
+        let n : length (chain_of p ask r) ≡ found.count = ap (λ (f : Found). f.count) same in
         (ap at q, sym n ∙ ap (λ (t : ℕ). length (chain_of p ask t)) q)
     go false e = let z : ◌≡◌ {A = ℕ} 0 1 = cc in absurd (omega arith)
 found_at p ask never found e = let z : ◌≡◌ {A = ℕ} 0 1 = cc in absurd (omega arith)
