@@ -3,9 +3,9 @@
 --     book_same, book_holds, book_fails      the same of a book
 --     class_good                             a class that is not out of range
 -- Assumes nothing.
-use Rattle.std.proofs.Common.{◌≡◌, ℕ, List, Some, None, ◌<◌, ◌≤◌, refl, sym, subst, arith}
+use Rattle.std.proofs.Common.{◌≡◌, ℕ, List, Some, None, ◌≤◌, refl, sym, subst}
 use Rattle.std.proofs.lemmas.Option.{MatchOption-at_none, MatchOption-at_some}
-use Rattle.std.specs.Prelude.{Option, is_some, IfSome, MatchOption, false}
+use Rattle.std.specs.Prelude.{Option, is_some, IfSome, MatchOption}
 use Rattle.units.specs.Limits.{most_class}
 use Rattle.plan.specs.Lent.{HoldPlan}
 use Rattle.plan.specs.Verdict.{Verdict}

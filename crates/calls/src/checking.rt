@@ -17,7 +17,8 @@ pub fn checks<'a>(
     ensures { Checked tables.entry.contacts.now tables.entry.contact_count tables.entry.ranges.now tables.entry.range_count booked.entry.places.now booked.entry.chains.now ask class result }
 {
     let plan = CheckedPlan::of(tables).ok_or(Refusal::NoPlan)?;
-    let book = Book::checked(booked.places, booked.chains, tables.contact_count).ok_or(Refusal::NoPlan)?;
+    let BookTables { places, chains } = booked;
+    let book = Book::checked(places, chains, tables.contact_count).ok_or(Refusal::NoPlan)?;
     if !is_good_ask(ask) {
         return Err(Refusal::AskValue);
     }
@@ -27,6 +28,11 @@ pub fn checks<'a>(
     if ask.source == ask.destination {
         return Err(Refusal::SameNode);
     }
-    let ask = CheckedAsk { asked: ask };
-    Ok(CheckedCall { plan, book, ask, class })
+    let call = CheckedCall {
+        plan,
+        book,
+        ask: CheckedAsk { asked: ask },
+        class,
+    };
+    Ok(call)
 }

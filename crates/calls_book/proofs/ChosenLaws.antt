@@ -20,7 +20,7 @@ use Rattle.units.specs.Limits.{most_consumption, most_size}
 use Rattle.units.specs.declared.Ask.{Ask}
 use Rattle.units.specs.declared.Millis.{Millis}
 use Rattle.plan.specs.declared.rows.Contact.{Contact}
-use Rattle.std.specs.Prelude.{Option, Some, None, Ok}
+use Rattle.std.specs.Prelude.{Option, Some, Ok}
 use Rattle.plan.specs.Plan.{Each}
 use Rattle.plan.specs.Tables.{plan_of}
 use Rattle.plan.proofs.Lent.{length_contacts}

@@ -8,7 +8,7 @@
 --     freed_place                      a booking is released
 -- Assumes nothing.
 use mathlib.Core.List.{List}
-use mathlib.Core.Path.{◌≡◌, refl, sym, ap, ◌∙◌, subst, subst₂}
+use mathlib.Core.Path.{◌≡◌, refl, sym, ap, ◌∙◌, subst}
 use Prim.Native.Nat.{ℕ, suc, ◌+◌, ◌-◌, ◌≤◌}
 use native.Mathlib.Omega.{arith}
 use lib.ListN.{length, take}
@@ -37,7 +37,6 @@ use Rattle.calls.specs.declared.call.CheckedCall.{CheckedCall}
 use Rattle.calls.proofs.CallCode.{call_routed, call_good, call_holds}
 use Rattle.calls_book.specs.Model.{RefusedFor, Bookable}
 use Rattle.calls_book.specs.Placing.{booking_of, BooksRoute, not_routed, full, placed, OpenAt, Releases, released}
-use Rattle.calls_book.specs.declared.answers.Placed.{Placed}
 use Rattle.calls_book.proofs.ChosenLaws.{chosen_room, chosen_booking}
 
 -- a route that is refused leaves the lent chain as it is
@@ -50,12 +49,12 @@ module _ {contacts : List ℕ} {m : ℕ} {ranges : List ℕ} {n : ℕ} {book cha
   -- why that call is refused, whatever chain is lent
   pub refused_as : (why : Refusal)
       → RefusedFor call.plan.tables.contacts.now call.plan.tables.contact_count call.plan.tables.ranges.now call.plan.tables.range_count call.book.places.now
-          call.book.chains.now call.ask.asked call.class why
+      call.book.chains.now call.ask.asked call.class why
       → RefusedFor contacts m ranges n book chains ask class why
   refused_as why h =
       transport
       (λ i. RefusedFor (same.contacts_same i) (same.contact_count_same i) (same.ranges_same i) (same.range_count_same i) (same.places_same i)
-          (same.chains_same i) (same.ask_same i) (same.class_same i) why) h
+      (same.chains_same i) (same.ask_same i) (same.class_same i) why) h
 
   module _ (good : Good contacts m ranges n book chains ask class) (before : List ℕ) (long : most_chain ≤ length before) where
     pub answer_routes : {r : Result Best Refusal} {after : List ℕ} → r ≡ route_model (service_for call) call.ask.asked
@@ -90,7 +89,7 @@ module _ {contacts : List ℕ} {m : ℕ} {ranges : List ℕ} {n : ℕ} {book cha
       pub placed_route : {k : ℕ} → IsLowestFree book k → {book' chains' : List ℕ}
           → book' ≡ entered book k (booking_of ask class (take b.count after)) → chains' ≡ entered_chain chains k (take b.count after)
           → BooksRoute contacts m ranges n book chains ask class before (Ok (record { figures = b.figures; count = b.count; place = k + 1 })) book' chains'
-              after
+          after
       placed_route {k} low places_stored chains_stored =
           let more : k + 1 ≡ suc k = omega arith in
           rw (more, places_stored, chains_stored) (placed (answer_routes e f) low)
@@ -100,7 +99,7 @@ module _ {contacts : List ℕ} {m : ℕ} {ranges : List ℕ} {n : ℕ} {book cha
 module _ (call : CheckedCall) where
   pub refuse_any : {why : Refusal} → Err why ≡ route_model (service_for call) call.ask.asked
       → RefusedFor call.plan.tables.contacts.now call.plan.tables.contact_count call.plan.tables.ranges.now call.plan.tables.range_count
-          call.book.places.now call.book.chains.now call.ask.asked call.class why
+      call.book.places.now call.book.chains.now call.ask.asked call.class why
   unfolding RefusedFor
   refuse_any e before long =
       let kept = plan_refused (call_routed (call_holds call) (call_good call) {before = before} e refl) in
@@ -108,7 +107,7 @@ module _ (call : CheckedCall) where
 
   pub full_any : AllOpen call.book.places.now → {b : Best} → Ok b ≡ route_model (service_for call) call.ask.asked
       → RefusedFor call.plan.tables.contacts.now call.plan.tables.contact_count call.plan.tables.ranges.now call.plan.tables.range_count
-          call.book.places.now call.book.chains.now call.ask.asked call.class FullBook
+      call.book.places.now call.book.chains.now call.ask.asked call.class FullBook
   unfolding RefusedFor
   full_any all e before long = full (answer_routes (call_holds call) (call_good call) before long e refl) all
 

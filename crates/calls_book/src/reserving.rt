@@ -27,14 +27,7 @@ fn refuse_full(call: &CheckedCall) -> Refusal
 }
 
 // Books the chain in place k.
-fn book_chain(
-    places: &mut [u64],
-    chains: &mut [u16],
-    k: usize,
-    ask: Ask,
-    class: u64,
-    chain: &[u64],
-)
+fn book_chain(places: &mut [u64], chains: &mut [u16], k: usize, ask: Ask, class: u64, chain: &[u64])
     requires { Bookable places.old chains.old k ask class chain.now }
     ensures places { places.new ≡ entered places.old k (booking_of ask class chain.now) }
     ensures chains { chains.new ≡ entered_chain chains.old k chain.now }
@@ -64,6 +57,10 @@ pub fn book_route(
     };
     let Best { figures, count } = route_good(&call, chain)?;
     book_chain(places, chains, k, ask, class, &chain[..count]);
-    let place = k as u64 + 1;
-    Ok(Placed { figures, count, place })
+    let placed = Placed {
+        figures,
+        count,
+        place: k as u64 + 1,
+    };
+    Ok(placed)
 }

@@ -12,7 +12,7 @@ use Prim.Native.Nat.{ℕ, ◌≤◌}
 use native.Mathlib.Nat.{le_refl, le_trans, lt_of_le_of_lt, lt_of_lt_of_le}
 use Rattle.units.specs.declared.Ask.{Ask}
 use Rattle.units.specs.declared.Millis.{Millis}
-use Rattle.std.specs.Prelude.{Option, Some, None}
+use Rattle.std.specs.Prelude.{Option, Some}
 use Rattle.plan.specs.declared.rows.Contact.{Contact}
 use Rattle.service.specs.Service.{Service, Sound, InPlan, contact_of, light_in, left_in}
 use Rattle.timing.specs.Chain.{Carries, stays, hops, Allowed, InTime, ask_at, ask_of}

@@ -18,7 +18,6 @@ use Rattle.units.specs.declared.Refusal.{Refusal}
 use Rattle.service.specs.Service.{Service, Sound}
 use Rattle.timing.specs.Chain.{Carries, stays, hops, Allowed, InTime, ask_at, ask_of}
 use Rattle.timing.specs.Hop.{is_barred}
-use Rattle.walk.specs.declared.figures.Figures.{Figures}
 use Rattle.walk.specs.Figures.{IsLastCall, IsRoom, HasFigures}
 use Rattle.units.specs.Asks.{GoodAsk}
 use Rattle.walk.proofs.Theorems.{figures_bounded}
@@ -97,6 +96,6 @@ module _ {p : Service} (sound : Sound p) (ask : Ask) {d : ℕ} (h : ask.deadline
       subst
       (λ (c : List ℕ).
       KeepsRoute (record { figures = f; count = length chain }) (chain ++ drop (length chain) before) (Ok (record { figures = g; count = length c }))
-          (c ++ drop (length c) before')) (sym same)
+      (c ++ drop (length c) before')) (sym same)
       (kept delivery (k''.opens ∙ sym k.opens) (last_call_by k.last_call k''.last_call) (room_by k.room k''.room)
       (first (drop (length chain) before') ∙ sym (first (drop (length chain) before))))

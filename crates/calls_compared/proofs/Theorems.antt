@@ -17,7 +17,6 @@ use Rattle.std.specs.Prelude.{Result, Ok}
 use Rattle.units.specs.declared.Ask.{Ask}
 use Rattle.units.specs.declared.Refusal.{Refusal}
 use Rattle.timing.specs.Chain.{ask_at, ask_of}
-use Rattle.walk.specs.declared.figures.Figures.{Figures}
 use Rattle.network.specs.Network.{When, NotLater}
 use Rattle.search.specs.declared.answer.Best.{Best}
 use Rattle.calls_compared.specs.Compared.{Over, RoutesOver, Delivers, route, Found, KeepsRoute, ask_by, Further}

@@ -51,8 +51,8 @@ returns-then-eq c =
     (class_good (omega arith) (omega arith))
     (eqb-true _ _ (sym c.eq.ensures ∙ c.if-eq.true))
 
-pub invariant_of-result : goal.invariant_of-result
-invariant_of-result c =
+pub invariant_of-call-2 : goal.invariant_of-call-2
+invariant_of-call-2 c =
     let plan : c.of.result ≡ Some c.in_ok-plan.plan = grind arith in
     let book : c.checked.result ≡ Some c.in_ok-book.book = grind arith in
     record {

@@ -16,7 +16,6 @@ spend-requires c =
     let call = c.args.call.now in
     omega (arith, contacts_counted _ _ _ _ call.plan.valid, call.same_count, c.serve.array_long2)
 
-
 pub invariant_of-result : goal.invariant_of-result
 unfolding most_contacts
 invariant_of-result c =
