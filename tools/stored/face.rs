@@ -14,29 +14,41 @@ pub fn place(why: Refusal) -> u64 {
 }
 
 #[derive(Clone, Copy)]
-pub enum PlanRead {
-    Rows(usize, usize),
-    Refused(Refusal),
+pub struct Counts {
+    pub contacts: usize,
+    pub ranges: usize,
 }
 
-pub fn read(text: &[u8], contacts: &mut [u64], ranges: &mut [u64]) -> PlanRead {
-    match second::read(text, contacts, ranges) {
-        Ok((m, n)) => PlanRead::Rows(m, n),
-        Err(why) => PlanRead::Refused(why),
+pub fn read(
+    text: &[u8],
+    contacts: &mut [u64],
+    ranges: &mut [u64],
+) -> std::result::Result<Counts, Refusal> {
+    let (contacts, ranges) = second::read(text, contacts, ranges)?;
+    Ok(Counts { contacts, ranges })
+}
+
+pub fn write(
+    contacts: &[u64],
+    m: usize,
+    ranges: &[u64],
+    n: usize,
+    out: &mut [u8],
+) -> std::result::Result<usize, Refusal> {
+    second::write(contacts, m as u64, ranges, n as u64, out)
+}
+
+/// Reads until the bytes are full or the reader is at its end: how many were
+/// read. A read that fails counts as the end.
+pub fn read_full(from: &mut impl Read, bytes: &mut [u8]) -> usize {
+    let mut done = 0;
+    while done < bytes.len() {
+        match from.read(&mut bytes[done..]) {
+            Ok(0) | Err(_) => break,
+            Ok(n) => done += n,
+        }
     }
-}
-
-#[derive(Clone, Copy)]
-pub enum Written {
-    Length(usize),
-    Refused(Refusal),
-}
-
-pub fn write(contacts: &[u64], m: usize, ranges: &[u64], n: usize, out: &mut [u8]) -> Written {
-    match second::write(contacts, m as u64, ranges, n as u64, out) {
-        Ok(length) => Written::Length(length),
-        Err(why) => Written::Refused(why),
-    }
+    done
 }
 
 /// What the program is started with.

@@ -1,32 +1,7 @@
 // The input, text by text.
-ghost use Rattle.std.specs.Prelude.{◌≤◌, length};
-ghost use Rattle.std.specs.Counts.{IsPrefixLen};
-
 use crate::one::judge;
+use desk_input::read_full;
 use std::io::Read;
-
-// Reads into the part: how many bytes it put at its start. A read that fails counts as the end.
-fn read_some(from: &mut impl Read, part: &mut [u8]) -> usize
-    ensures { result ≤ length part.new }
-{
-    from.read(part).unwrap_or(0)
-}
-
-// Reads until `buf` is full or the reader is at its end: how many bytes it put at the start of `buf`.
-// A read may put fewer bytes than there is room for, so they are counted here, and not by a `for`.
-fn read_full(from: &mut impl Read, buf: &mut [u8]) -> usize
-    ensures { IsPrefixLen result buf.new }
-{
-    let mut done = 0;
-    while done < buf.len() {
-        let n = read_some(from, &mut buf[done..]);
-        if n == 0 {
-            break;
-        }
-        done += n;
-    }
-    done
-}
 
 // A text read into its bytes, and judged.
 fn fill(rt: &impl Print, from: &mut impl Read, text: &mut [u8]) {
