@@ -28,14 +28,17 @@ pub fn read(
     Ok(Counts { contacts, ranges })
 }
 
-pub fn write(
-    contacts: &[u64],
-    m: usize,
-    ranges: &[u64],
-    n: usize,
-    out: &mut [u8],
-) -> std::result::Result<usize, Refusal> {
-    second::write(contacts, m as u64, ranges, n as u64, out)
+#[derive(Clone, Copy)]
+pub struct PlanTables<'a> {
+    pub contacts: &'a [u64],
+    pub contact_count: usize,
+    pub ranges: &'a [u64],
+    pub range_count: usize,
+}
+
+pub fn write(tables: PlanTables, out: &mut [u8]) -> std::result::Result<usize, Refusal> {
+    let (m, n) = (tables.contact_count as u64, tables.range_count as u64);
+    second::write(tables.contacts, m, tables.ranges, n, out)
 }
 
 /// Reads until the bytes are full or the reader is at its end: how many were
