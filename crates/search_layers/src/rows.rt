@@ -25,7 +25,7 @@ fn place(k: usize, node: NodeNo) -> usize
 }
 
 // 64 layers of 64 nodes. A word is a time, or NEVER and not an Option, for fixed memory: an Option is twice
-// as long as its time.
+// as long as its time. The words are lent: a struct with the words in it would be copied when it is made.
 #[derive(Drop)]
 pub struct Layers<'a> {
     pub words: &'a mut [u64],
