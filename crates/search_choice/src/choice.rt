@@ -72,6 +72,7 @@ fn lowest_leading(
 }
 
 // Writes the chain of `count` contacts that delivers at `delivered` into the first places.
+#[tactic(auto, unfolding(units::specs::Limits::last_time, units::specs::Limits::most_light))]
 pub fn choose(
     service: &ServedPlan,
     ask: CheckedAsk,

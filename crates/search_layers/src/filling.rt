@@ -29,6 +29,7 @@ fn next_row(net: &ContactNetwork, layers: &mut Layers, old: usize, k: usize) -> 
 
 // Fills the rows with the layers and answers the last one worked out: every later layer is the same. Row 0
 // has none before it, and is held against the last row, which is blank still.
+#[tactic(auto, unfolding(units::specs::Limits::most_nodes))]
 fn fill_rows(net: &ContactNetwork, layers: &mut Layers) -> usize
     requires { layers.old.words.now ≡ blank_words }
     ensures { Filled (network_in net.now) layers.new result }

@@ -17,6 +17,7 @@ pub const NODES: usize = 64;
 pub const NEVER: u64 = 18_446_744_073_709_551_614;
 
 // Where the word of the node in row k stands.
+#[tactic(auto, unfolding(units::specs::Limits::most_nodes))]
 fn place(k: usize, node: NodeNo) -> usize
     requires { (k < most_nodes) × IsNode node }
     ensures { (result ≡ k * most_nodes + (node.0 - 1)) × (result < most_nodes * most_nodes) }
@@ -40,6 +41,7 @@ impl<'a> Layers<'a> {
     ghost use Rattle.search_layers.specs.Words.{TimeGood, time_word, row_of, layer_of};
 
     // The word of the node in row k.
+    #[tactic(auto, unfolding(units::specs::Limits::most_nodes))]
     pub fn word(&self, k: usize, node: NodeNo) -> u64
         requires { (k < most_nodes) × IsNode node }
         ensures { result ≡ get_or (row_of self.now.words.now k) (node.0 - 1) 0 }
@@ -62,6 +64,7 @@ impl<'a> Layers<'a> {
     }
 
     // Stores that time for the node in row k.
+    #[tactic(auto, unfolding(units::specs::Limits::most_nodes))]
     pub(crate) fn put(&mut self, k: usize, node: NodeNo, time: Millis)
         requires { (k < most_nodes) × IsNode node × (time.0 ≤ last_time + most_light) }
         ensures { self.new.words.now ≡ set self.old.words.now (k * most_nodes + (node.0 - 1)) time.0 }
@@ -71,6 +74,7 @@ impl<'a> Layers<'a> {
     }
 
     // Row k copied into row k + 1.
+    #[tactic(auto, unfolding(units::specs::Limits::most_nodes))]
     pub(crate) fn copy_row(&mut self, k: usize)
         requires { k + 1 < most_nodes }
         ensures { Layered self.old self.new k (layer_of self.old.words.now k) }

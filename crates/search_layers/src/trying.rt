@@ -112,6 +112,7 @@ fn try_changed(
 
 // The contacts from every node tried, one node after the other. Answers whether no node's words differed:
 // then nothing was tried.
+#[tactic(auto, unfolding(units::specs::Limits::most_nodes))]
 pub fn try_all(net: &ContactNetwork, layers: &mut Layers, old: usize, k: usize) -> bool
     requires inside { k + 1 < most_nodes }
     requires older { Older (network_in net.now) layers.old old k }

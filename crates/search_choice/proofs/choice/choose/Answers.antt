@@ -2,16 +2,11 @@
 -- Assumes nothing.
 use mathlib.Core.Path.{refl}
 use native.Mathlib.Omega.{arith}
-use Rattle.units.specs.Limits.{last_time, most_light}
 use Rattle.search_choice.specs.Model.{chain_of}
 use Rattle.search_choice.proofs.ChooseCode.{working_begins, working_ends, lead_named, one_leads, found_leads, found_goes}
 use Rattle.search_layers.proofs.FillCode.{held_laws}
 use Rattle.search_layers.proofs.ReadCode.{Read, read_by}
 use Rattle.search_choice.proofs.choice.choose.Goals as goal
-
-pub overflow_add-limit : goal.overflow_add-limit
-unfolding last_time most_light
-overflow_add-limit c = omega (arith, c.requires.delivered.1)
 
 pub loop-k-init : goal.loop-k-init
 loop-k-init c =

@@ -15,10 +15,6 @@ loop-k-init c =
       older_begin _ _ good (held_laws net.service net.ask) c.args.layers.now _ _ (omega arith) (omega arith) c.requires c.put.ensures,
     )
 
-pub next_row-requires : goal.next_row-requires
-unfolding most_nodes
-next_row-requires c = (omega (arith, c.loop-k-test.true), c.loop-k.invariant.1)
-
 pub returns-then-next_row : goal.returns-then-next_row
 unfolding most_nodes
 returns-then-next_row c =

@@ -13,10 +13,6 @@ use Rattle.search_layers.proofs.trying.try_all.Goals.{then-try_changed, else-try
 pub loop-v-init : goal.loop-v-init
 loop-v-init c = (tried_none _ _ _ (λ c' here none. omega arith), λ e. refl)
 
-pub try_changed-requires-clause-inside : goal.try_changed-requires-clause-inside
-unfolding most_nodes
-try_changed-requires-clause-inside c = (c.requires.inside, record { least = omega arith; most = omega (arith, c.loop-v-test.true) })
-
 pub try_changed-requires-clause-older : goal.try_changed-requires-clause-older
 try_changed-requires-clause-older c = older_kept _ _ _ _ _ c.loop-v.invariant.0.kept c.requires.older
 

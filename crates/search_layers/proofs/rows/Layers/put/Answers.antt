@@ -2,19 +2,9 @@
 -- Assumes nothing.
 use mathlib.Core.Logic.{inl}
 use mathlib.Core.Path.{ap, ◌∙◌}
-use native.Mathlib.Omega.{arith}
 use lib.ListN.{set, length-set}
-use Rattle.units.specs.Limits.{most_nodes}
 use Rattle.search_layers.proofs.RowLaws.{time_set}
 use Rattle.search_layers.proofs.rows.Layers.put.Goals as goal
-
-pub offset_bounds-self-at : goal.offset_bounds-self-at
-unfolding most_nodes
-offset_bounds-self-at c = omega (arith, c.place-at.ensures)
-
-pub bounds-self-at : goal.bounds-self-at
-unfolding most_nodes
-bounds-self-at c = omega (arith, c.place-at.ensures)
 
 pub invariant_of-self : goal.invariant_of-self
 invariant_of-self c = record {

@@ -1,20 +1,10 @@
 -- `search_layers::rows::Layers::word` meets its contract.
 -- Assumes nothing.
 use mathlib.Core.Path.{sym, ap, ◌∙◌}
-use native.Mathlib.Omega.{arith}
 use lib.ListN.{get_or}
-use Rattle.units.specs.Limits.{most_nodes}
 use Rattle.search_layers.proofs.NetworkLaws.{node_below}
 use Rattle.search_layers.proofs.RowLaws.{get_d_row}
 use Rattle.search_layers.proofs.rows.Layers.word.Goals as goal
-
-pub offset_bounds-self-place : goal.offset_bounds-self-place
-unfolding most_nodes
-offset_bounds-self-place c = omega (arith, c.place.ensures)
-
-pub bounds-self-place : goal.bounds-self-place
-unfolding most_nodes
-bounds-self-place c = omega (arith, c.place.ensures)
 
 pub returns : goal.returns
 returns c = ap (λ i. get_or c.args.self.now.words.now i 0) c.place.ensures.0 ∙ sym (get_d_row _ _ _ _ (node_below _ c.requires.1))
