@@ -1,6 +1,7 @@
 -- `calls_book::reserving::book_route` meets its contract.
 -- Assumes nothing.
 use mathlib.Core.Path.{sym, ◌∙◌}
+use native.Mathlib.Omega.{arith}
 use lib.Seq.{length-take-le}
 use Rattle.std.proofs.lemmas.Option.{MatchOption-at_some}
 use Rattle.std.proofs.lemmas.Result.{err_from_is_err_and}
@@ -48,16 +49,20 @@ pub slice_bounds-book_chain-end : goal.slice_bounds-book_chain-end
 unfolding most_chain
 slice_bounds-book_chain-end c =
     let all = rw c.in_ok-call.was at c.checks.ensures in
-    counted (checked_holds all) (checked_good all) _ c.if-chain-lt-MOST_CHAIN.false (sym c.in_ok-figures.was ∙ c.route_good.ensures.best)
-    c.route_good.ensures.chain
+    omega (
+      arith,
+      counted (checked_holds all) (checked_good all) _ c.if-chain-lt-MOST_CHAIN.false (sym c.in_ok-figures.was ∙ c.route_good.ensures.best)
+          c.route_good.ensures.chain,
+    )
 
 pub slice_bounds-book_chain-end-2 : goal.slice_bounds-book_chain-end-2
 unfolding most_chain
 slice_bounds-book_chain-end-2 c =
     let all = rw c.in_ok-call.was at c.checks.ensures in
-    sym (length-take-le _ _
-    (counted (checked_holds all) (checked_good all) _ c.if-chain-lt-MOST_CHAIN.false (sym c.in_ok-figures.was ∙ c.route_good.ensures.best)
-    c.route_good.ensures.chain))
+    let within =
+    counted (checked_holds all) (checked_good all) _ c.if-chain-lt-MOST_CHAIN.false (sym c.in_ok-figures.was ∙ c.route_good.ensures.best)
+    c.route_good.ensures.chain in
+    sym (length-take-le _ _ (omega (arith, within)))
 
 pub book_chain-requires : goal.book_chain-requires
 unfolding most_chain
