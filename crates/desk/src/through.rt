@@ -65,6 +65,7 @@ fn answer_while_room(
     let mut at = from;
     let mut number = first;
     let mut used: usize = 0;
+    // It stops where a line ends or room does, and counts no index: no `for`.
     while (at < input.len()) & (LONGEST <= out.len() - used) {
         let end = find(input, at, LINE_FEED);
         used = answer_into(

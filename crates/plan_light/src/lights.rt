@@ -91,6 +91,7 @@ fn light_along(lists: &RangeLists, begin: usize, c: Contact) -> Option<Millis>
     let mut missing = c.end.0 - c.start.0;
     let mut light = Millis(0);
     let mut j = begin;
+    // Along a list, and not by counting: no `for`.
     while j < lists.range_count {
         let r = Range::read(lists.ranges, j);
         if is_behind(lists.ordered, r, c) {
@@ -114,6 +115,7 @@ fn pass_over(lists: &RangeLists, begin: usize, time: Millis) -> usize
 {
     let mut j = begin;
     let mut next = next_of(lists.nexts, j);
+    // Along a list, and not by counting: no `for`.
     while next < lists.range_count {
         if time < Range::read(lists.ranges, next).end {
             return j;

@@ -50,7 +50,7 @@ pub fn enter(heads: &mut [u16], nexts: &mut [u16], slot: usize, i: usize) -> usi
 
 // Links the first n rows of a table: `heads` has the first row of each slot, and `nexts` for each row
 // the next one of its slot, with n where there is none. Answers whether each row ends no later than the
-// next one of its slot starts.
+// next one of its slot starts: a second thing found on the way, which is neither an error nor none.
 pub fn link(table: &[u64], n: usize, heads: &mut [u16], nexts: &mut [u16]) -> bool
     requires { Linkable table.now n heads.old nexts.old }
     ensures { Linked (slot_at table.now) n heads.new nexts.new × (length heads.new ≡ length heads.old) × (length nexts.new ≡ length nexts.old) × Verdict (InOrder table.now n nexts.new) result }

@@ -15,6 +15,7 @@ fn is_clear_after(table: &[u64], n: usize, nexts: &[u16], i: usize) -> bool
 {
     let one = span_row(table, i);
     let mut j = next_of(nexts, i);
+    // Along a list, and not by counting: no `for`.
     while j < n {
         if is_overlap(one, span_row(table, j)) {
             return false;

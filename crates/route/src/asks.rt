@@ -40,6 +40,7 @@ fn answer_each(rt: &impl Print, tables: PlanTables, input: &[u8], out: &mut [u8]
     ensures { ToItsEnd tables.entry.contacts.now tables.entry.contact_count tables.entry.ranges.now tables.entry.range_count input.now result }
 {
     let mut printed = PrintedAnswers::none();
+    // From receipt to receipt, and not by counting: no `for`.
     while printed.at() < input.len() {
         printed = answer_some(rt, tables, input, printed, out);
     }

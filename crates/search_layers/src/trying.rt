@@ -81,6 +81,7 @@ fn try_from(net: &ContactNetwork, layers: &mut Layers, k: usize, node: NodeNo)
         return;
     };
     let mut i = first_from(net.heads, node);
+    // Along a list, and not by counting: no `for`.
     while i < net.service.contact_count {
         let no = ContactNo(i as u64 + 1);
         try_contact(net, layers, k, no, ready);

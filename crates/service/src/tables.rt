@@ -16,7 +16,8 @@ pub const BLANK_LIGHT: u32 = 1;
 
 pub const BLANK_LEFT: u64 = 1;
 
-// The word of a contact that has no light time.
+// The word of a contact that has no light time. It stands for None, for fixed memory: 512 Options of a time
+// take four times the words; `light_numbered` answers an Option.
 pub const UNRANGED: u32 = 4_294_967_295;
 
 // A contact with its light time, if it has one, and the bytes that are left on it.

@@ -7,4 +7,4 @@ mod marks;
 mod number;
 
 pub use line::{Field, numbers, said_by};
-pub use marks::{find, is_same};
+pub use marks::find;

@@ -1,7 +1,7 @@
-// Bytes: where the next mark stands, and whether two runs of bytes are the same.
+// Bytes: where the next mark stands.
 ghost use Rattle.std.specs.Prelude.{◌≡◌, ◌+◌, ◌==◌, ◌<◌, ◌^◌, drop};
 ghost use Rattle.std.specs.List.{position_or_len};
-ghost use Rattle.text.specs.Model.{up_to, same};
+ghost use Rattle.text.specs.Model.{up_to};
 
 // How many bytes stand before the first such byte, of those from `from` on.
 fn bytes_before(s: &[u8], from: usize, mark: u8) -> usize
@@ -16,11 +16,4 @@ pub fn find(s: &[u8], from: usize, mark: u8) -> usize
     ensures { result ≡ from + up_to mark (drop from s.now) }
 {
     from + bytes_before(s, from, mark)
-}
-
-// Whether the two have the same bytes.
-pub fn is_same(a: &[u8], b: &[u8]) -> bool
-    ensures { result ≡ same a.now b.now }
-{
-    a == b
 }

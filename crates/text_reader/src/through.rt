@@ -23,6 +23,7 @@ pub fn read_lines(text: &[u8], contacts: &mut [u64], ranges: &mut [u64]) -> Resu
         ranges: 0,
     };
     let mut line = 2;
+    // The reader goes on by itself, and no index is counted: no `for`.
     while reader.has_line() {
         let said = reader.next_line();
         counts = take_said(said, contacts, ranges, counts, line)?;

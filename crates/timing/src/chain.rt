@@ -1,4 +1,5 @@
-// A chain of contacts, and when it delivers.
+// A chain of contacts, and when it delivers. These functions take a plain ask and require of it what they need:
+// docs/PROMISES.md names them, and a `CheckedAsk` would ask more of their callers.
 ghost use Rattle.std.specs.Prelude.{◌≡◌, ◌+◌, ◌≤◌};
 ghost use Rattle.units.specs.Limits.{IsNode, most_size, last_time, most_light};
 ghost use Rattle.plan.specs.Plan.{GoodContact};

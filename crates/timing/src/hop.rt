@@ -54,7 +54,7 @@ pub fn hop_over(pass: Pass, size: u64, ready: Millis) -> Option<Millis>
 }
 
 // The limit below which the file must be ready before the contact, so that it is ready behind it
-// below `limit`; 0 where it never is.
+// below `limit`; 0 where it never is: no time is below 0, so no case is special, and an Option would be one.
 #[tactic(auto, unfolding(crate::specs::Model::back_over))]
 pub fn back(pass: Pass, size: u64, limit: Millis) -> Millis
     requires { size ≤ most_size }

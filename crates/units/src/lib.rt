@@ -99,7 +99,8 @@ pub fn is_node(n: NodeNo) -> bool
     (1 <= n.0) & (n.0 <= MOST_NODES)
 }
 
-// The number of a refusal, as the request's table has it.
+// The number of a refusal, as the request's table has it. It and `place` are the paper's two figures, which
+// docs/PROMISES.md names, and no conversion of the value: `From` has room for one.
 pub fn number(why: Refusal) -> u64
     ensures { result ≡ number_of why }
 {
