@@ -62,7 +62,7 @@ slice_bounds-book_chain-end-2 c =
     let within =
     counted (checked_holds all) (checked_good all) _ c.if-chain-lt-MOST_CHAIN.false (sym c.in_ok-figures.was ∙ c.route_good.ensures.best)
     c.route_good.ensures.chain in
-    sym (length-take-le _ _ (omega (arith, within)))
+    omega (arith, length-take-le c.in_ok-figures.field-0.count c.route_good.new.chain within)
 
 pub book_chain-requires : goal.book_chain-requires
 unfolding most_chain
