@@ -1,6 +1,7 @@
 // How contacts are tried in a layer: when the file is ready behind a contact, then one contact tried, those
 // from a node along their list, and those from every node. They are tried out of row k of the layers, which
-// is layer k, into row k + 1.
+// is layer k, into row k + 1. The bools that are answered say a second thing found on the way, which is neither
+// an error nor none.
 ghost use Rattle.std.specs.Prelude.{true, false, ◌≡◌, ℕ, ◌+◌, ◌-◌, ◌≤◌, ◌<◌, get_or};
 ghost use Rattle.units.specs.Limits.{last_time, most_light, most_nodes, IsNode};
 ghost use Rattle.service.specs.Held.{service_in};
