@@ -20,27 +20,18 @@ invariant_of-layers c = record { full = refl; timed = subst (Each TimeWord) (sym
 pub fill-last-requires : goal.fill-last-requires
 fill-last-requires c = blank_is
 
-pub returns-in_default-clause-found : goal.returns-in_default-clause-found
-returns-in_default-clause-found c =
-    (find_none _ _ c.args.ask.good c.fill-last.new.layers _ c.fill-last.ensures _ refl c.args.chain.now (never_is _ (sym c.in_default.is ∙ c.get.ensures.time))).0
+pub returns-in_default : goal.returns-in_default
+returns-in_default c =
+    let told = find_none _ _ c.args.ask.good c.fill-last.new.layers _ c.fill-last.ensures _ refl c.args.chain.now (never_is _ (sym c.in_default.is ∙ c.get.ensures.time)) in
+    record { found = told.0; chain = told.1 }
 
-pub returns-in_default-clause-chain : goal.returns-in_default-clause-chain
-returns-in_default-clause-chain c =
-    (find_none _ _ c.args.ask.good c.fill-last.new.layers _ c.fill-last.ensures _ refl c.args.chain.now (never_is _ (sym c.in_default.is ∙ c.get.ensures.time))).1
-
-pub returns-then-le-clause-found : goal.returns-then-le-clause-found
-returns-then-le-clause-found c =
+pub returns-then-le : goal.returns-then-le
+returns-then-le c =
     let word = sym (time_is _ _ (sym c.in-Some.is ∙ c.get.ensures.time)) in
     let bound = subst TimeGood c.in-Some.is c.get.ensures.good in
     let late : c.args.ask.asked.deadline.0 ≤ c.in-Some.delivered.0 = search (rules, c.if-le.ensures) in
-    (find_late _ _ c.args.ask.good c.fill-last.new.layers _ c.fill-last.ensures _ word bound c.args.chain.now late).0
-
-pub returns-then-le-clause-chain : goal.returns-then-le-clause-chain
-returns-then-le-clause-chain c =
-    let word = sym (time_is _ _ (sym c.in-Some.is ∙ c.get.ensures.time)) in
-    let bound = subst TimeGood c.in-Some.is c.get.ensures.good in
-    let late : c.args.ask.asked.deadline.0 ≤ c.in-Some.delivered.0 = search (rules, c.if-le.ensures) in
-    (find_late _ _ c.args.ask.good c.fill-last.new.layers _ c.fill-last.ensures _ word bound c.args.chain.now late).1
+    let told = find_late _ _ c.args.ask.good c.fill-last.new.layers _ c.fill-last.ensures _ word bound c.args.chain.now late in
+    record { found = told.0; chain = told.1 }
 
 pub first_row-count-requires : goal.first_row-count-requires
 first_row-count-requires c =
@@ -66,16 +57,10 @@ choose-requires-clause-fewest c =
     let bound = subst TimeGood c.in-Some.is c.get.ensures.good in
     count_is _ _ c.args.ask.good c.fill-last.new.layers _ c.fill-last.ensures _ word bound _ c.first_row-count.ensures
 
-pub returns-clause-found : goal.returns-clause-found
-returns-clause-found c =
+pub returns : goal.returns
+returns c =
     let word = sym (time_is _ _ (sym c.in-Some.is ∙ c.get.ensures.time)) in
     let bound = subst TimeGood c.in-Some.is c.get.ensures.good in
     let early : c.in-Some.delivered.0 < c.args.ask.asked.deadline.0 = search (rules, c.if-le.ensures) in
-    (find_best _ _ c.args.ask.good c.fill-last.new.layers _ c.fill-last.ensures _ word bound _ c.first_row-count.ensures _ _ early c.choose.ensures).0
-
-pub returns-clause-chain : goal.returns-clause-chain
-returns-clause-chain c =
-    let word = sym (time_is _ _ (sym c.in-Some.is ∙ c.get.ensures.time)) in
-    let bound = subst TimeGood c.in-Some.is c.get.ensures.good in
-    let early : c.in-Some.delivered.0 < c.args.ask.asked.deadline.0 = search (rules, c.if-le.ensures) in
-    (find_best _ _ c.args.ask.good c.fill-last.new.layers _ c.fill-last.ensures _ word bound _ c.first_row-count.ensures _ _ early c.choose.ensures).1
+    let told = find_best _ _ c.args.ask.good c.fill-last.new.layers _ c.fill-last.ensures _ word bound _ c.first_row-count.ensures _ _ early c.choose.ensures in
+    record { found = told.0; chain = told.1 }
