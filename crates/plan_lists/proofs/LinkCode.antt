@@ -5,7 +5,7 @@
 --     OrderedFrom                            each row from row i on ends no later than the next one of its slot starts
 --     ordered_none, ordered_stays, ordered_stops, ordered_all    none, one row more that does or does not, and all of them
 --     slot_found                             the slot that is found for a row is that row's
---     node_read, node_found                  the node that a contact is from, read from its row
+--     node_found                             the node that a contact is from, read from its row
 -- Assumes nothing.
 use mathlib.Core.Bool.{Bool, true, false, ◌&&◌}
 use Rattle.std.proofs.Math.Bool.{and-true, and-false}
@@ -155,9 +155,6 @@ slot_found table k s slot es e = e ∙ ap pair_slot es
 
 -- the node that a contact is from, read from its row
 module _ (contacts : List ℕ) (k : ℕ) (x : Contact) (ex : x ≡ contact_at contacts k) (node : IsNode (contact_at contacts k).from) where
-  pub node_read : 1 ≤ x.from.0
-  node_read = rw ex node.least
-
   pub node_found : (x.from.0 - 1 ≡ from_at contacts k) × (x.from.0 - 1 < most_nodes)
   unfolding from_at
   node_found = (ap (λ (y : Contact). y.from.0 - 1) ex, rw ex (omega (arith, node.least, node.most)))

@@ -18,7 +18,8 @@ fn leaves(contacts: &[u64], k: usize) -> usize
 }
 
 // Links the first n contacts: `heads` has the first contact of each node, and `nexts` for each contact
-// the next one from its node, with n where there is none.
+// the next one from its node, with n where there is none. `link` has a loop of its own over `enter`: it reads
+// a row once, for its slot and for the order.
 pub fn link_from(contacts: &[u64], n: usize, heads: &mut [u16], nexts: &mut [u16])
     requires { LinkableFrom contacts.now n heads.old nexts.old }
     ensures { Linked (from_at contacts.now) n heads.new nexts.new × (length heads.new ≡ length heads.old) × (length nexts.new ≡ length nexts.old) }

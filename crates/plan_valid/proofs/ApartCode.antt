@@ -4,7 +4,7 @@
 --     clear_starts, clear_stops, clear_goes, clear_ends      it begins, meets an overlap, goes on, ends
 --     order_apart                              rows that are in order are apart
 --     apart_list, list_apart                   rows apart, as a statement on the list of the rows
---     first_overlaps, second_tells             one table after the other
+--     first_fails, second_tells                one table after the other
 -- Assumes nothing.
 use mathlib.Core.Bool.{Bool, true, false}
 use mathlib.Core.List.{List}
@@ -94,9 +94,9 @@ module _ (table : List ℕ) (n : ℕ) where
   unfolding Apart Below ClearAfter
   list_apart none j hj k l h = no_two_row Overlap (span_at table) n none j k l h
 
--- where one table is not apart, they are not both
-pub first_overlaps : {A B : Type 0} {b : Bool} → Verdict A b → b ≡ false → Verdict (A × B) false
-first_overlaps told e = fails (λ both. false_fails told e both.0)
+-- where the first does not hold, they do not both
+pub first_fails : {A B : Type 0} {b : Bool} → Verdict A b → b ≡ false → Verdict (A × B) false
+first_fails told e = fails (λ both. false_fails told e both.0)
 
 pub second_tells : {A B : Type 0} {a b : Bool} → Verdict A a → a ≡ true → Verdict B b → Verdict (A × B) b
 second_tells told e then = restated (λ y. (true_holds told e, y)) (λ both. both.1) then

@@ -1,95 +1,99 @@
 -- What the code knows that judges a whole plan.
---     contact_spans, range_spans               rows that are good have pairs and times that can be held against each other
---     contacts_bad, ranges_bad                 a row that is not good: no plan
---     plan_tells                               all rows are good: whether two overlap tells
+--     good_spans           rows that are good have pairs and times that can be held against each other
+--     not_all_good         a row that is not good: no table
+--     table_tells          all rows are good: whether two overlap tells
+--     plan_tells           the two tables tell of the plan
 -- Assumes nothing.
 use mathlib.Core.Bool.{Bool, true, false}
 use mathlib.Core.List.{List}
-use mathlib.Core.Path.{◌≡◌, sym, subst}
-use Prim.Native.Nat.{ℕ, ◌*◌, ◌≤◌}
+use mathlib.Core.Path.{◌≡◌, refl, sym, ◌∙◌, subst}
+use Prim.Native.Nat.{ℕ, ◌*◌, ◌≤◌, ◌<◌}
 use lib.ListN.{length}
 use Rattle.units.specs.Limits.{most_contacts, most_ranges}
+use Rattle.plan.specs.declared.rows.Span.{Span}
 use Rattle.plan.specs.Model.{good_contact, good_range, each}
-use Rattle.plan.specs.Plan.{GoodContact, GoodRange, Overlap, Each, NoTwo}
-use Rattle.plan.specs.Tables.{words, contact_at, range_at, rows_from, plan_of, IsPlan}
-use Rattle.plan.specs.Verdict.{Verdict}
+use Rattle.plan.specs.Plan.{GoodContact, GoodRange, Overlap, NoTwo}
+use Rattle.plan.specs.Rows.{RowLaws, IsGoodSpan}
+use Rattle.plan.specs.Tables.{words, contact_at, range_at, span_at, rows_from, plan_of, IsPlan}
+use Rattle.plan.specs.Verdict.{Verdict, holds, fails}
 use Rattle.plan.proofs.EachRow.{each_row}
-use Rattle.plan.proofs.Lent.{length_contacts, length_ranges, spans_of_contacts, spans_of_ranges}
+use Rattle.plan.proofs.Lent.{length_contacts, length_ranges, contacts_counted, ranges_counted, spans_of_contacts, spans_of_ranges}
 use Rattle.plan.proofs.Tests.{each_tells, good_contact_tells, good_range_tells}
-use Rattle.plan.proofs.Verdicts.{restated, true_holds, false_fails}
+use Rattle.plan.proofs.Verdicts.{restated, true_holds, holds_true}
 use Rattle.plan_lists.specs.Model.{most_rows}
-use Rattle.plan_valid.specs.Model.{Below, Starts, GoodSpans, Apart}
+use Rattle.plan_valid.specs.Model.{Below, Starts, GoodSpans, Apart, IsTable}
 use Rattle.plan_valid.proofs.ApartCode.{apart_list, list_apart}
 
--- b tells whether each contact is good
-module _ (contacts : List ℕ) (m : ℕ) (b : Bool) (told : b ≡ each good_contact (rows_from (contact_at contacts) 0 m)) where
-  contacts_tell : Verdict (Each GoodContact (rows_from (contact_at contacts) 0 m)) b
-  contacts_tell = rw told (each_tells GoodContact good_contact good_contact_tells (rows_from (contact_at contacts) 0 m))
+-- a test tells of its own answer
+answer_tells : (b : Bool) → Verdict (b ≡ true) b
+answer_tells true = holds refl
+answer_tells false = fails (λ e. cc)
 
-  pub contact_spans : m ≤ most_contacts → m * words ≤ length contacts → b ≡ true → GoodSpans contacts m
-  unfolding most_contacts most_rows Starts Below
-  contact_spans few lent e =
-      let good = each_row GoodContact (contact_at contacts) m (true_holds contacts_tell e) in
+module _ {R : Type 0} (row_at : List ℕ → ℕ → R) (good : R → Bool) (table : List ℕ) (n : ℕ) where
+  pub good_spans : (span_of : R → Span) (words_of : R → List ℕ) → RowLaws row_at span_of good words_of
+      → n ≤ most_rows → n * words ≤ length table → each good (rows_from (row_at table) 0 n) ≡ true → GoodSpans table n
+  unfolding Starts Below
+  good_spans span_of words_of laws few lent e =
+      let rows =
+      each_row (λ x. good x ≡ true) (row_at table) n
+      (true_holds (each_tells (λ x. good x ≡ true) good (λ x. answer_tells (good x)) (rows_from (row_at table) 0 n)) e) in
+      let spans : (k : ℕ) → k < n → IsGoodSpan (span_at table k) =
+      λ k h. subst IsGoodSpan (laws.spans table k) (laws.good_span (row_at table k) (rows k h)) in
       record {
         few = few;
         lent = lent;
-        starts = λ k h. (good k h).starts;
-        pairs = λ k h. record { one_node = (good k h).from_node; other_node = (good k h).to_node };
+        starts = λ k h. (spans k h).starts;
+        pairs = λ k h. record { one_node = (spans k h).one_node; other_node = (spans k h).other_node };
       }
 
-  pub contacts_bad : (ranges : List ℕ) (n : ℕ) → b ≡ false → IsPlan contacts m ranges n → ⊥
-  unfolding plan_of
-  contacts_bad ranges n e p = false_fails contacts_tell e p.valid.contacts_good
+  -- b tells whether each row is good
+  module _ (most : ℕ) (b : Bool) (told : b ≡ each good (rows_from (row_at table) 0 n)) where
+    pub not_all_good : b ≡ false → Verdict (IsTable row_at good most table n) false
+    not_all_good e = fails (λ t. let rows = t.rows_good in cc)
 
--- b tells whether each range is good
-module _ (ranges : List ℕ) (n : ℕ) (b : Bool) (told : b ≡ each good_range (rows_from (range_at ranges) 0 n)) where
-  ranges_tell : Verdict (Each GoodRange (rows_from (range_at ranges) 0 n)) b
-  ranges_tell = rw told (each_tells GoodRange good_range good_range_tells (rows_from (range_at ranges) 0 n))
-
-  pub range_spans : n ≤ most_ranges → n * words ≤ length ranges → b ≡ true → GoodSpans ranges n
-  unfolding most_ranges most_rows Starts Below
-  range_spans few lent e =
-      let good = each_row GoodRange (range_at ranges) n (true_holds ranges_tell e) in
-      record {
-        few = few;
-        lent = lent;
-        starts = λ k h. (good k h).starts;
-        pairs = λ k h. record { one_node = (good k h).a_node; other_node = (good k h).b_node };
-      }
-
-  pub ranges_bad : (contacts : List ℕ) (m : ℕ) → b ≡ false → IsPlan contacts m ranges n → ⊥
-  unfolding plan_of
-  ranges_bad contacts m e p = false_fails ranges_tell e p.valid.ranges_good
+    pub table_tells : n ≤ most → n * words ≤ length table → b ≡ true → (c : Bool) → Verdict (Apart table n) c
+        → Verdict (IsTable row_at good most table n) c
+    table_tells few lent e c apart =
+        restated (λ a. record { few = few; lent = lent; rows_good = sym told ∙ e; apart = a }) (λ t. t.apart) apart
 
 module _ (contacts : List ℕ) (m : ℕ) (ranges : List ℕ) (n : ℕ) where
-  -- the rows of both tables are apart
-  abbrev BothApart : Type 0
-  BothApart = Apart contacts m × Apart ranges n
+  abbrev Contacts : Type 0
+  Contacts = IsTable contact_at good_contact most_contacts contacts m
 
-  apart_of_plan : IsPlan contacts m ranges n → BothApart
-  apart_of_plan p = (
-    list_apart contacts m (subst (NoTwo Overlap) (spans_of_contacts contacts m ranges n) p.valid.contacts_apart),
-    list_apart ranges n (subst (NoTwo Overlap) (spans_of_ranges contacts m ranges n) p.valid.ranges_apart),
+  abbrev Ranges : Type 0
+  Ranges = IsTable range_at good_range most_ranges ranges n
+
+  plan_of_tables : Contacts × Ranges → IsPlan contacts m ranges n
+  unfolding plan_of
+  plan_of_tables t = record {
+    contacts_lent = t.0.lent;
+    ranges_lent = t.1.lent;
+    valid = record {
+      contacts_most = subst (λ k. k ≤ most_contacts) (sym (length_contacts contacts m ranges n)) t.0.few;
+      ranges_most = subst (λ k. k ≤ most_ranges) (sym (length_ranges contacts m ranges n)) t.1.few;
+      contacts_good = true_holds (each_tells GoodContact good_contact good_contact_tells (rows_from (contact_at contacts) 0 m)) t.0.rows_good;
+      ranges_good = true_holds (each_tells GoodRange good_range good_range_tells (rows_from (range_at ranges) 0 n)) t.1.rows_good;
+      contacts_apart = subst (NoTwo Overlap) (sym (spans_of_contacts contacts m ranges n)) (apart_list contacts m t.0.apart);
+      ranges_apart = subst (NoTwo Overlap) (sym (spans_of_ranges contacts m ranges n)) (apart_list ranges n t.1.apart);
+    };
+  }
+
+  tables_of_plan : IsPlan contacts m ranges n → Contacts × Ranges
+  unfolding plan_of
+  tables_of_plan p = (
+    record {
+      few = contacts_counted contacts m ranges n p;
+      lent = p.contacts_lent;
+      rows_good = holds_true (each_tells GoodContact good_contact good_contact_tells (rows_from (contact_at contacts) 0 m)) p.valid.contacts_good;
+      apart = list_apart contacts m (subst (NoTwo Overlap) (spans_of_contacts contacts m ranges n) p.valid.contacts_apart);
+    },
+    record {
+      few = ranges_counted contacts m ranges n p;
+      lent = p.ranges_lent;
+      rows_good = holds_true (each_tells GoodRange good_range good_range_tells (rows_from (range_at ranges) 0 n)) p.valid.ranges_good;
+      apart = list_apart ranges n (subst (NoTwo Overlap) (spans_of_ranges contacts m ranges n) p.valid.ranges_apart);
+    },
   )
 
-  -- a and b tell whether each contact and each range is good
-  pub plan_tells : {a b c : Bool} → m ≤ most_contacts → n ≤ most_ranges → m * words ≤ length contacts → n * words ≤ length ranges
-      → a ≡ each good_contact (rows_from (contact_at contacts) 0 m) → a ≡ true
-      → b ≡ each good_range (rows_from (range_at ranges) 0 n) → b ≡ true
-      → Verdict BothApart c → Verdict (IsPlan contacts m ranges n) c
-  unfolding plan_of
-  plan_tells {a} {b} fm fn lm ln ta ea tb eb told =
-      restated
-      (λ apart. record {
-        contacts_lent = lm;
-        ranges_lent = ln;
-        valid = record {
-          contacts_most = subst (λ k. k ≤ most_contacts) (sym (length_contacts contacts m ranges n)) fm;
-          ranges_most = subst (λ k. k ≤ most_ranges) (sym (length_ranges contacts m ranges n)) fn;
-          contacts_good = true_holds (contacts_tell contacts m a ta) ea;
-          ranges_good = true_holds (ranges_tell ranges n b tb) eb;
-          contacts_apart = subst (NoTwo Overlap) (sym (spans_of_contacts contacts m ranges n)) (apart_list contacts m apart.0);
-          ranges_apart = subst (NoTwo Overlap) (sym (spans_of_ranges contacts m ranges n)) (apart_list ranges n apart.1);
-        };
-      })
-      apart_of_plan told
+  pub plan_tells : (b : Bool) → Verdict (Contacts × Ranges) b → Verdict (IsPlan contacts m ranges n) b
+  plan_tells b told = restated plan_of_tables tables_of_plan told

@@ -4,10 +4,12 @@
 --     Room                 there are words for the lists of the most rows
 --     Listed               a table has n rows, and each has a word for its next one
 --     ClearAfter, Apart    no later row overlaps a row; none of the rows overlaps a later one
+--     IsTable              a table has the rows that it counts, no more than there may be, each is good, and none overlaps a later one
 -- Assumes nothing.
-use Rattle.std.specs.Prelude.{List, ◌≡◌, ℕ, ◌*◌, ◌≤◌, ◌<◌, length}
+use Rattle.std.specs.Prelude.{Bool, true, List, ◌≡◌, ℕ, ◌*◌, ◌≤◌, ◌<◌, length}
+use Rattle.plan.specs.Model.{each}
 use Rattle.plan.specs.Plan.{Overlap}
-use Rattle.plan.specs.Tables.{words, span_at}
+use Rattle.plan.specs.Tables.{words, span_at, rows_from}
 use Rattle.plan_lists.specs.Model.{slots, most_rows, IsPair}
 
 unfoldable pub Below : (ℕ → Type 0) → ℕ → Type 0
@@ -37,3 +39,9 @@ ClearAfter table n i = (j : ℕ) → i < j → j < n → Overlap (span_at table 
 unfoldable pub Apart : List ℕ → ℕ → Type 0
 unfolding Below ClearAfter
 Apart table n = Below (ClearAfter table n) n
+
+pub record IsTable {R : Type 0} (row_at : List ℕ → ℕ → R) (good : R → Bool) (most : ℕ) (table : List ℕ) (n : ℕ) : Type 0 where
+  pub few : n ≤ most
+  pub lent : n * words ≤ length table
+  pub rows_good : each good (rows_from (row_at table) 0 n) ≡ true
+  pub apart : Apart table n

@@ -41,7 +41,7 @@ fn field_at(line: &[u8], at: usize) -> Option<Field>
 }
 
 // Whether as many numbers as the row has words, and no more, stand behind the tab at `from`. They are
-// then the row's words.
+// then the row's words: they are stored in the caller's memory, so no value stands beside the answer.
 pub fn numbers(line: &[u8], from: usize, row: &mut [u64]) -> bool
     requires { from ≤ length line.now }
     ensures { (result ≡ good_fields (length row.old) (fields_from line.now from)) × (result ≡ true → row.new ≡ map capped_value (fields_from line.now from)) }

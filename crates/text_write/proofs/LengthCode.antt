@@ -1,10 +1,11 @@
 -- The length of a text, piece by piece.
---     digits_goes, digits_ends, digits_few      how many digits a number has
+--     digits_are                                how many digits a number has
 --     row_few                                   the fields of a row are few bytes
 -- Assumes nothing.
 use mathlib.Core.List.{List, [], ◌∷◌, ◌++◌, map}
 use mathlib.Core.Path.{◌≡◌, sym, ap, ap₂, ◌∙◌}
-use Prim.Native.Nat.{ℕ, suc, ◌+◌, ◌-◌, ◌*◌, ◌/◌, ◌%◌, ◌^◌, ◌≤◌, ◌<◌}
+use Prim.Native.Nat.{ℕ, zero, max, suc, ◌+◌, ◌-◌, ◌*◌, ◌/◌, ◌%◌, ◌^◌, ◌≤◌, ◌<◌}
+use native.Mathlib.Nat.{pow-succ', one-le-pow}
 use native.Mathlib.Omega.{arith}
 use lib.ListN.{length, get_or, take, drop, length-append}
 use Rattle.plan.specs.Plan.{Plan}
@@ -13,7 +14,7 @@ use Rattle.text.specs.Calls.{text_of}
 use Rattle.text.specs.Digits.{decimal}
 use Rattle.text.specs.Lines.{glue}
 use Rattle.text.specs.Rows.{header, contact_word, range_word, line_of, contact_line, range_line, plan_lines, render}
-use Rattle.text.proofs.Digits.{decimal_large, decimal_small, decimal_number, decimal_short}
+use Rattle.text.proofs.Digits.{decimal_large, decimal_small}
 use Rattle.text.proofs.Lines.{glue_append}
 use Rattle.plan.proofs.RowList.{length_rows, map_rows, rows_agree}
 use Rattle.text_write.specs.Model.{words_from, field_bytes, line_at, line_bytes, row_bytes}
@@ -21,17 +22,22 @@ use Rattle.text_write.proofs.PutCode.{fields_more, fields_done, line_parts, row_
 
 -- ---- digits
 
-pub digits_goes : (n v k : ℕ) → 10 ≤ v → length (decimal n) + 1 ≡ k + length (decimal v) → length (decimal n) + 1 ≡ (k + 1) + length (decimal (v / 10))
-digits_goes n v k h e = omega (arith, e, ap length (decimal_large v h), length-append (decimal (v / 10)) ((48 + v % 10) ∷ []))
+powers_tell : (k n : ℕ) → 10 ^ k ≤ n → n < 10 * 10 ^ k → length (decimal n) ≡ k + 1
+powers_tell zero n low high = ap length (decimal_small n high)
+powers_tell (suc k) n low high =
+    let step : 10 ^ suc k ≡ 10 * 10 ^ k = pow-succ' 10 k in
+    let one : 1 ≤ 10 ^ k = one-le-pow k 10 (omega arith) in
+    let large : 10 ≤ n = omega (arith, step, one, low) in
+    let below : 10 ^ k ≤ n / 10 = omega (arith, step, low) in
+    let above : n / 10 < 10 * 10 ^ k = omega (arith, step, high) in
+    let front : length (decimal (n / 10)) ≡ k + 1 = powers_tell k (n / 10) below above in
+    omega (arith, front, ap length (decimal_large n large), length-append (decimal (n / 10)) ((48 + n % 10) ∷ []))
 
-pub digits_ends : (n v k : ℕ) → v < 10 → length (decimal n) + 1 ≡ k + length (decimal v) → k ≡ length (decimal n)
-digits_ends n v k h e = omega (arith, e, ap length (decimal_small v h))
-
-pub digits_few : (n : ℕ) → n < 2 ^ 64 → length (decimal n) ≤ 20
-digits_few n h = decimal_short 19 n (omega arith)
-
-pub digits_counted : (n v k : ℕ) → n < 2 ^ 64 → length (decimal n) + 1 ≡ k + length (decimal v) → k ≤ 20
-digits_counted n v k h e = omega (arith, digits_few n h, (decimal_number v).not_blank)
+-- a number has a digit more than the power of ten at or below it has zeros; 0 has one
+pub digits_are : (n k : ℕ) → 10 ^ k ≤ max n 1 → max n 1 < 10 * 10 ^ k → length (decimal n) ≡ k + 1
+digits_are zero k low high =
+    ap length (decimal_small 0 (omega arith)) ∙ sym (ap length (decimal_small 1 (omega arith))) ∙ powers_tell k 1 low high
+digits_are (suc n) k low high = powers_tell k (suc n) (omega (arith, low)) (omega (arith, high))
 
 -- ---- fields and lines
 

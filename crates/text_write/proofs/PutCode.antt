@@ -1,9 +1,10 @@
 -- Writing, piece by piece.
---     Onward                                the rest of the bytes, written behind, completes them all
---     onward_start, onward_room, onward_step, onward_end
---     wrote_byte, wrote_none                one byte, and none
---     wrote_front                           what stands there, written at the front
---     fields_more, fields_done, rows-more-bytes, rows-done-bytes      one field or line more, and none left
+--     wrote_then                                          one piece after the other
+--     wrote_none, wrote_front                             no byte, and what stands there, written at the front
+--     Onward                                              the rest of the bytes, written behind, completes them all
+--     onward_start, onward_room, onward_step, onward_end      such a run, from piece to piece
+--     fields_more, fields_done, rows_left, rows_none      one field or line more, and none left
+--     row_taken                                           the words of a row, as the code takes them
 -- Assumes nothing.
 use mathlib.Core.List.{List, [], ◌∷◌, ◌++◌, append_assoc}
 use mathlib.Core.Path.{◌≡◌, refl, sym, ap, ap₂, ◌∙◌, subst}
@@ -11,8 +12,8 @@ use Prim.Native.Nat.{ℕ, zero, suc, ◌+◌, ◌-◌, ◌*◌, ◌/◌, ◌%◌
 use native.Mathlib.Nat.{zero-add}
 use native.Mathlib.Numerals.{add-one}
 use native.Mathlib.Omega.{arith}
-use lib.ListN.{length, get_or, take, drop, set, length-append, length-take, take-append-drop, drop_of_length-le}
-use lib.Seq.{set_split, take_at, drop_at, drop-cons, drop-drop}
+use lib.ListN.{length, get_or, take, drop, length-append, length-take, take-append-drop, drop_of_length-le}
+use lib.Seq.{take_at, drop_at, drop-cons, drop-drop}
 use Rattle.plan.specs.Tables.{words, rows_from}
 use Rattle.plan.proofs.RowList.{rows_more, rows_done}
 use Rattle.text.specs.Digits.{nought, decimal}
@@ -60,9 +61,6 @@ pub wrote_none : (out : List ℕ) (at : ℕ) → Wrote out at [] out at
 wrote_none out at =
     let e : at + 0 ≡ at = omega arith in
     record { next_is = sym e; bytes_are = sym (ap (λ (n : ℕ). take at out ++ drop n out) e ∙ take-append-drop at out) }
-
-pub wrote_byte : (out : List ℕ) (at b : ℕ) → at < length out → Wrote out at (b ∷ []) (set out at b) (at + 1)
-wrote_byte out at b h = record { next_is = refl; bytes_are = set_split out at b h ∙ ap (λ (n : ℕ). take at out ++ b ∷ drop n out) (sym (add-one at)) }
 
 -- at the front
 pub wrote_front : {out bytes last : List ℕ} {q : ℕ} → Wrote out 0 bytes last q → last ≡ bytes ++ drop (length bytes) out
@@ -196,12 +194,6 @@ module _ (before : List ℕ) (at : ℕ) (all word t out : List ℕ) (p k n : ℕ
 pub lines_end : (before : List ℕ) (at : ℕ) (all word t out : List ℕ) (p k n : ℕ) → n ≤ k → Onward before at all out p (row_bytes word t k (n - k))
     → Wrote before at all out p
 lines_end before at all word t out p k n h o = onward_end (onward_as (row_bytes word t k (n - k)) [] (rows_none word t k n h) o)
-
-pub lines_start : (out : List ℕ) (at : ℕ) (word t : List ℕ) (n : ℕ) → at + length (row_bytes word t 0 n) ≤ length out
-    → Onward out at (row_bytes word t 0 n) out at (row_bytes word t 0 (n - 0))
-lines_start out at word t n room =
-    let e : n ≡ n - 0 = omega arith in
-    subst (λ (k : ℕ). Onward out at (row_bytes word t 0 n) out at (row_bytes word t 0 k)) e (onward_start out at (row_bytes word t 0 n) room)
 
 -- ---- a line
 

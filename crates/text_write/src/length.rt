@@ -1,24 +1,18 @@
 // How long a plan's text is.
 ghost use Rattle.std.specs.Prelude.{◌≡◌, ◌*◌, ◌≤◌, length};
-ghost use Rattle.units.specs.Limits.{most_contacts, most_ranges};
 ghost use Rattle.plan.specs.Tables.{words};
-ghost use Rattle.text.specs.Calls.{text_of};
 ghost use Rattle.text.specs.Digits.{decimal};
+ghost use Rattle.text.specs.Rows.{render};
 ghost use Rattle.text_write.specs.Model.{field_bytes, row_bytes};
 
 use plan::WORDS;
+use plan_valid::Plan;
 
 // How many decimal digits the number has.
 fn digits(n: u64) -> usize
     ensures { (result ≡ length (decimal n)) × (result ≤ 20) }
 {
-    let mut v = n;
-    let mut k = 1;
-    while 10 <= v {
-        v = v / 10;
-        k += 1;
-    }
-    k
+    n.max(1).ilog10() as usize + 1
 }
 
 // How long the fields of the numbers are, with their tabs.
@@ -47,9 +41,10 @@ fn rows_length(word: &[u8], table: &[u64], n: usize) -> usize
 }
 
 // How long the plan's text is.
-pub fn text_length(contacts: &[u64], m: usize, ranges: &[u64], n: usize) -> usize
-    requires { (m ≤ most_contacts) × (n ≤ most_ranges) × (m * words ≤ length contacts.now) × (n * words ≤ length ranges.now) }
-    ensures { result ≡ length (text_of contacts.now m ranges.now n) }
+pub fn text_length(plan: &Plan) -> usize
+    ensures { result ≡ length (render plan.now) }
 {
-    7 + rows_length(b"contact", contacts, m) + rows_length(b"range", ranges, n)
+    let tables = plan.tables();
+    7 + rows_length(b"contact", tables.contacts, tables.contact_count)
+        + rows_length(b"range", tables.ranges, tables.range_count)
 }

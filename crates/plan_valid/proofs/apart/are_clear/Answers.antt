@@ -7,11 +7,6 @@ use Rattle.plan_valid.proofs.apart.are_clear.Goals as goal
 pub loop-i-init : goal.loop-i-init
 loop-i-init c = below_none _
 
-pub is_clear_after-requires : goal.is_clear_after-requires
-is_clear_after-requires c =
-    let pre = c.requires in
-    (pre.0, pre.1, c.loop-i-test.true)
-
 pub returns-then-not-is_clear_after : goal.returns-then-not-is_clear_after
 unfolding Apart
 returns-then-not-is_clear_after c =

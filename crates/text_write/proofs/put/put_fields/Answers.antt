@@ -1,10 +1,7 @@
 -- `text_write::put::put_fields` meets its contract.
 -- Assumes nothing.
-use Rattle.text_write.proofs.PutCode.{onward_start, field_room, field_goes, fields_end}
+use Rattle.text_write.proofs.PutCode.{field_room, field_goes, fields_end}
 use Rattle.text_write.proofs.put.put_fields.Goals as goal
-
-pub loop-n-init : goal.loop-n-init
-loop-n-init c = onward_start _ _ _ c.requires
 
 pub put_field-next-requires : goal.put_field-next-requires
 put_field-next-requires c = field_room _ _ _ _ _ _ _ c.loop-n-test.true c.loop-n.invariant

@@ -1,11 +1,8 @@
 -- `text_write::put::put_rows` meets its contract.
 -- Assumes nothing.
 use Rattle.std.proofs.Common.{arith}
-use Rattle.text_write.proofs.PutCode.{lines_start, row_taken, line_room, line_goes, lines_end}
+use Rattle.text_write.proofs.PutCode.{row_taken, line_room, line_goes, lines_end}
 use Rattle.text_write.proofs.put.put_rows.Goals as goal
-
-pub loop-k-init : goal.loop-k-init
-loop-k-init c = lines_start _ _ _ _ _ c.requires.1
 
 pub put_line-next-requires : goal.put_line-next-requires
 put_line-next-requires c =
