@@ -1,5 +1,5 @@
 -- What the loop along a chain knows of the model.
---     goes_in_plan, steps_in_plan      a number that goes on names a contact of the plan
+--     steps_in_plan     a number that goes on names a contact of the plan
 --     step_bounded      behind a contact of a valid plan the file is ready at a time that has room in a word
 --     carry_goes, carry_stops, carry_ends, carry_misses      the chain from place i on, by what the contact there does
 -- Assumes nothing.
@@ -29,7 +29,7 @@ both_pass true b e = (refl, e)
 both_pass false true e = (e, refl)
 both_pass false false e = (e, e)
 
-pub goes_in_plan : (p : Service) (ask : Ask) (u c : ℕ) → goes_on p ask u c ≡ true → InPlan p c
+goes_in_plan : (p : Service) (ask : Ask) (u c : ℕ) → goes_on p ask u c ≡ true → InPlan p c
 unfolding goes_on
 goes_in_plan p ask u c e =
     let named = both_pass _ _ (both_pass _ _ (both_pass _ _ e).0).0 in
