@@ -14,7 +14,6 @@ use Rattle.units.specs.declared.Ask.{Ask}
 use Rattle.service.specs.Service.{Service, Sound, contact_of}
 use Rattle.units.specs.declared.Millis.{Millis}
 use Rattle.timing.specs.Chain.{Carries, stays, hops, Allowed}
-
 use Rattle.timing.specs.Model.{delivery_of}
 use Rattle.units.specs.Asks.{GoodAsk}
 use Rattle.service.proofs.Bounded.{contact_good}

@@ -54,20 +54,20 @@ module _ (p : Service) (ask : Ask) (good : GoodAsk ask) (layers : Layers) (last 
   abbrev N : Network
   N = network_of p ask
 
-  row_room : (k : ℕ) → k ≤ last → (k + 1) * most_nodes ≤ length layers.words
+  row_room : (k : ℕ) → k ≤ last → (k + 1) * most_nodes ≤ length layers.words.now
   row_room k h = inside layers k (omega (arith, filled.most))
 
   goal_below : goal ask < most_nodes
   goal_below = omega (arith, good.destination_node)
 
   -- when a node is reached over at most k contacts
-  row_says : (k : ℕ) → k ≤ last → earliest N k (goal ask) ≡ when_word (get_or (row_of layers.words k) (goal ask) 0)
+  row_says : (k : ℕ) → k ≤ last → earliest N k (goal ask) ≡ when_word (get_or (row_of layers.words.now k) (goal ask) 0)
   unfolding earliest
   row_says k h =
       ap (λ (l : List When). get_or l (goal ask) never) (sym (filled.rows k h))
-      ∙ get_d_layer layers.words k (goal ask) (row_room k h) goal_below
+      ∙ get_d_layer layers.words.now k (goal ask) (row_room k h) goal_below
 
-  module _ (d : ℕ) (ed : d ≡ get_or (row_of layers.words last) (goal ask) 0) where
+  module _ (d : ℕ) (ed : d ≡ get_or (row_of layers.words.now last) (goal ask) 0) where
     pub delivered_is : delivery N (goal ask) ≡ when_word d
     unfolding delivery earliest network_of
     delivered_is =
@@ -88,10 +88,10 @@ module _ (p : Service) (ask : Ask) (good : GoodAsk ask) (layers : Layers) (last 
       find_late before h = (rw (delivered_at, le-ltb d ask.deadline.0 h), rw (delivered_at, le-ltb d ask.deadline.0 h))
 
       -- a row's word against the last row's
-      row_word : (k : ℕ) → k ≤ last → get_or (row_of layers.words k) (goal ask) 0 ≤ never_word
-      row_word k h = time_most (get_or (row_of layers.words k) (goal ask) 0) (time_row layers.words k (goal ask) layers.timed (row_room k h) goal_below)
+      row_word : (k : ℕ) → k ≤ last → get_or (row_of layers.words.now k) (goal ask) 0 ≤ never_word
+      row_word k h = time_most (get_or (row_of layers.words.now k) (goal ask) 0) (time_row layers.words.now k (goal ask) layers.timed (row_room k h) goal_below)
 
-      module _ (count : ℕ) (first : FirstRow layers.words last (goal ask) d count) where
+      module _ (count : ℕ) (first : FirstRow layers.words.now last (goal ask) d count) where
         pub count_is : count ≡ fewest N (goal ask)
         unfolding network_of
         count_is =
@@ -100,7 +100,7 @@ module _ (p : Service) (ask : Ask) (good : GoodAsk ask) (layers : Layers) (last 
             (row_says count first.most ∙ ap when_word first.has ∙ sym delivered_is)
             (λ j h e.
             first.none_before j h
-            (when_injective (get_or (row_of layers.words j) (goal ask) 0) d (row_word j (omega (arith, first.most))) (time_below d bound)
+            (when_injective (get_or (row_of layers.words.now j) (goal ask) 0) d (row_word j (omega (arith, first.most))) (time_below d bound)
             (sym (row_says j (omega (arith, first.most))) ∙ e ∙ delivered_is))))
 
         pub count_room : count ≤ most_chain

@@ -16,7 +16,6 @@ use Rattle.units.specs.Checked as Checked
 use Rattle.units.specs.Checked.{ChecksAsk}
 use Rattle.units.specs.Limits.{most_chain}
 use Rattle.units.specs.declared.Ask.{Ask}
-use Rattle.units.specs.declared.Millis.{Millis}
 use Rattle.units.specs.declared.Refusal.{Refusal}
 use Rattle.units.specs.declared.Refusal.TheVariants.{NoPlan, TooLate}
 use Rattle.units.specs.declared.asks.CheckedAsk.{CheckedAsk}

@@ -24,9 +24,8 @@ pub fn find_chain(
     ensures found { result ≡ find_model (service_in service.now) ask.asked }
     ensures chain { chain.new ≡ route_after (service_in service.now) ask.asked chain.old }
 {
-    let mut layers = Layers {
-        words: [NEVER; 4096],
-    };
+    let mut words = [NEVER; 4096];
+    let mut layers = Layers { words: &mut words };
     let last = fill(service, ask, &mut layers);
     let Some(delivered) = layers.get(last, ask.asked.destination) else {
         return Err(Refusal::NoChain);

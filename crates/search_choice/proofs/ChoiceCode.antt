@@ -5,7 +5,7 @@
 use mathlib.Core.Bool.{true, false}
 use mathlib.Core.List.{List}
 use mathlib.Core.Path.{◌≡◌, refl, sym, ap, ◌∙◌}
-use Prim.Native.Nat.{ℕ, suc, ◌+◌, ◌-◌, ◌*◌, ◌≤◌, ◌<◌}
+use Prim.Native.Nat.{ℕ, suc, ◌+◌, ◌-◌, ◌≤◌, ◌<◌}
 use native.Mathlib.Numerals.{add-one}
 use native.Mathlib.Omega.{arith}
 use borrow.Author.Tests.{eq-eqb, ne_eqb}
@@ -36,17 +36,17 @@ within_time None limit = refl
 
 -- contact c was read as x, and is held against a node and a limit
 module _ (p : Service) (ask : Ask) (layers : Layers) (k : ℕ) (node : NodeNo) (limit c : ℕ) (x : Contact) (is-node : IsNode node) (read : Read p c x) where
-  pub leads_elsewhere : (x.to.0 ≡ node.0 → ⊥) → false ≡ leads (network_of p ask) (layer_of layers.words k) (node.0 - 1) limit c
+  pub leads_elsewhere : (x.to.0 ≡ node.0 → ⊥) → false ≡ leads (network_of p ask) (layer_of layers.words.now k) (node.0 - 1) limit c
   unfolding leads
   leads_elsewhere h =
       rw (read_to p ask c x read, ne_eqb (x.to.0 - 1) (node.0 - 1) (λ e. h (omega (arith, is-node.least, read.good.to_node.least))))
 
-  pub leads_by : x.to.0 ≡ node.0 → k < most_nodes → (ready a : Option Millis) → ready ≡ time_word (get_or (row_of layers.words k) (x.from.0 - 1) 0)
-      → when_of a ≡ behind (network_of p ask) c (when_of ready) → is_before a limit ≡ leads (network_of p ask) (layer_of layers.words k) (node.0 - 1) limit c
+  pub leads_by : x.to.0 ≡ node.0 → k < most_nodes → (ready a : Option Millis) → ready ≡ time_word (get_or (row_of layers.words.now k) (x.from.0 - 1) 0)
+      → when_of a ≡ behind (network_of p ask) c (when_of ready) → is_before a limit ≡ leads (network_of p ask) (layer_of layers.words.now k) (node.0 - 1) limit c
   unfolding leads
   leads_by h room ready a er comes =
-      let from_word : get_or (layer_of layers.words k) (x.from.0 - 1) never ≡ when_of ready =
-      get_d_layer layers.words k (x.from.0 - 1) (inside layers k room) (node_below x.from read.good.from_node) ∙ sym (time_when _) ∙ ap when_of (sym er) in
+      let from_word : get_or (layer_of layers.words.now k) (x.from.0 - 1) never ≡ when_of ready =
+      get_d_layer layers.words.now k (x.from.0 - 1) (inside layers k room) (node_below x.from read.good.from_node) ∙ sym (time_when _) ∙ ap when_of (sym er) in
       rw (read_to p ask c x read, eq-eqb (x.to.0 - 1) (node.0 - 1) (ap (λ (n : ℕ). n - 1) h), read_from p ask c x read, from_word, ← comes) (within_time a limit)
 
 module _ (N : Network) (before : List When) (v limit m tried : ℕ) where

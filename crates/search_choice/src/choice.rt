@@ -17,8 +17,8 @@ use walk::back_over;
 
 // The first row up to `last` in which the node has that time: row `last` has it.
 pub fn first_row(layers: &Layers, last: usize, node: NodeNo, time: Millis) -> usize
-    requires { (last < most_nodes) × IsNode node × (get_or (row_of layers.now.words last) (node.0 - 1) 0 ≡ time.0) }
-    ensures { FirstRow layers.now.words last (node.0 - 1) time.0 result }
+    requires { (last < most_nodes) × IsNode node × (get_or (row_of layers.now.words.now last) (node.0 - 1) 0 ≡ time.0) }
+    ensures { FirstRow layers.now.words.now last (node.0 - 1) time.0 result }
 {
     for k in 0..last {
         if layers.word(k, node) == time.0 {
@@ -39,7 +39,7 @@ fn is_leading(
     no: ContactNo,
 ) -> bool
     requires { InPlan (service_in service.now) no.0 × (row < most_nodes) × IsNode node }
-    ensures { result ≡ leads (network_of (service_in service.now) ask.asked) (layer_of layers.now.words row) (node.0 - 1) limit.0 no.0 }
+    ensures { result ≡ leads (network_of (service_in service.now) ask.asked) (layer_of layers.now.words.now row) (node.0 - 1) limit.0 no.0 }
 {
     let pass = service.contact(no);
     if pass.to != node {
@@ -59,8 +59,8 @@ fn lowest_leading(
     limit: Millis,
 ) -> ContactNo
     requires inside { (row < most_nodes) × IsNode node }
-    requires one { 1 ≤ lowest (network_of (service_in service.now) ask.asked) (layer_of layers.now.words row) (node.0 - 1) limit.0 }
-    ensures { result.0 ≡ lowest (network_of (service_in service.now) ask.asked) (layer_of layers.now.words row) (node.0 - 1) limit.0 }
+    requires one { 1 ≤ lowest (network_of (service_in service.now) ask.asked) (layer_of layers.now.words.now row) (node.0 - 1) limit.0 }
+    ensures { result.0 ≡ lowest (network_of (service_in service.now) ask.asked) (layer_of layers.now.words.now row) (node.0 - 1) limit.0 }
 {
     for i in 0..service.contact_count {
         let no = ContactNo(i as u64 + 1);
@@ -72,6 +72,7 @@ fn lowest_leading(
 }
 
 // Writes the chain of `count` contacts that delivers at `delivered` into the first places.
+#[tactic(auto, unfolding(units::specs::Limits::last_time, units::specs::Limits::most_light))]
 pub fn choose(
     service: &ServedPlan,
     ask: CheckedAsk,
@@ -81,7 +82,7 @@ pub fn choose(
     chain: &mut [u64],
 )
     requires room { (count < most_nodes) × (count ≤ length chain.old) }
-    requires rows { (j : ℕ) → j ≤ count → layer_of layers.now.words j ≡ layer (network_of (service_in service.now) ask.asked) j }
+    requires rows { (j : ℕ) → j ≤ count → layer_of layers.now.words.now j ≡ layer (network_of (service_in service.now) ask.asked) j }
     requires delivered { (delivery (network_of (service_in service.now) ask.asked) (goal ask.asked) ≡ at delivered.0) × TimeGood (Some delivered) }
     requires fewest { count ≡ fewest (network_of (service_in service.now) ask.asked) (goal ask.asked) }
     ensures { chain.new ≡ chain_of (service_in service.now) ask.asked delivered.0 ++ drop count chain.old }

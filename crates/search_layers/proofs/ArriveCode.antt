@@ -4,8 +4,8 @@
 -- Assumes nothing.
 use mathlib.Core.Bool.{Bool, true, false}
 use mathlib.Core.Logic.{inl, inr}
-use mathlib.Core.Path.{◌≡◌, sym, ap, ◌∙◌, subst}
-use Prim.Native.Nat.{ℕ, suc, ◌+◌, ◌≤◌, ◌<◌}
+use mathlib.Core.Path.{◌≡◌, sym, ap, ◌∙◌}
+use Prim.Native.Nat.{ℕ, ◌+◌, ◌≤◌, ◌<◌}
 use native.Mathlib.Omega.{arith}
 use Rattle.units.specs.declared.Ask.{Ask}
 use Rattle.units.specs.declared.Millis.{Millis}
@@ -19,7 +19,7 @@ use Rattle.service.proofs.Bounded.{contact_good, light_good}
 use Rattle.timing.proofs.HopLaws.{hop_bounded}
 use Rattle.units.specs.Asks.{GoodAsk}
 use Rattle.network.specs.Model.{behind}
-use Rattle.network.specs.Network.{When, at, never, NotLater, both, last}
+use Rattle.network.specs.Network.{at, never, NotLater, both, last}
 use Rattle.network.proofs.Layers.{behind_after}
 use Rattle.network.proofs.Whens.{not_later_trans}
 use Rattle.search_layers.specs.Bridge.{when_of, network_of}
@@ -48,8 +48,11 @@ module _ (p : Service) (ask : Ask) (c t : ℕ) (named : InPlan p c) where
   pub arrive_good : Sound p → (a : Option Millis) → a ≡ over_contact p ask c t → TimeGood a
   unfolding over_contact
   arrive_good sound (Some s) ea =
-      omega (arith, (contact_good p sound c named).ends,
-        hop_bounded (light_in p c) (left_in p c) (contact_of p c) (light_good p sound c named) ask.size t s (sym ea))
+      omega (
+        arith,
+        (contact_good p sound c named).ends,
+        hop_bounded (light_in p c) (left_in p c) (contact_of p c) (light_good p sound c named) ask.size t s (sym ea),
+      )
   arrive_good sound None ea = tt
 
 -- the file is at the contact's last node at `there` already

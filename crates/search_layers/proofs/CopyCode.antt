@@ -4,7 +4,7 @@
 --     copied_row                 so row k + 1 holds layer k
 -- Assumes nothing.
 use mathlib.Core.List.{List, map}
-use mathlib.Core.Path.{◌≡◌, sym, ap, ◌∙◌, subst}
+use mathlib.Core.Path.{◌≡◌, sym, ap, ◌∙◌}
 use Prim.Native.Nat.{ℕ, suc, ◌+◌, ◌-◌, ◌*◌, ◌≤◌, ◌<◌}
 use native.Mathlib.Decide.{dec_le}
 use native.Mathlib.Nat.{mul-le-mul_right}
@@ -63,7 +63,7 @@ module _ (entry exit : List ℕ) (k : ℕ) (inside : k + 1 < most_nodes) (full :
       let place : k * most_nodes + (suc k * most_nodes + v - (k + 1) * most_nodes) ≡ k * most_nodes + v = omega arith in
       copied (suc k * most_nodes + v) 0 (omega arith) (omega arith) ∙ ap (λ (i : ℕ). get_or entry i 0) place)
 
-pub copied_row : (entry exit : Layers) (k : ℕ) → ((j : ℕ) → (j ≡ suc k → ⊥) → row_of exit.words j ≡ row_of entry.words j)
-    → row_of exit.words (suc k) ≡ row_of entry.words k → Layered entry exit k (layer_of entry.words k)
+pub copied_row : (entry exit : Layers) (k : ℕ) → ((j : ℕ) → (j ≡ suc k → ⊥) → row_of exit.words.now j ≡ row_of entry.words.now j)
+    → row_of exit.words.now (suc k) ≡ row_of entry.words.now k → Layered entry exit k (layer_of entry.words.now k)
 unfolding layer_of
 copied_row entry exit k kept is = record { kept = kept; is = ap (map when_word) is }

@@ -6,14 +6,14 @@
 --     older_begin, older_kept, older_next      the row that row k is compared with: at first a blank one, then the row before
 -- Assumes nothing.
 use mathlib.Core.List.{List, ◌∷◌, map}
-use mathlib.Core.Logic.{inl, inr, ⊎_elim}
+use mathlib.Core.Logic.{inr, ⊎_elim}
 use mathlib.Core.Path.{◌≡◌, refl, sym, ap, ◌∙◌, subst}
 use Prim.Native.Nat.{ℕ, zero, suc, ◌+◌, ◌-◌, ◌*◌, ◌≤◌, ◌<◌}
 use native.Mathlib.Nat.{le_refl, eq-or-lt_of_le, le_of_suc-le-suc, not-suc-le-zero, zero-mul, mul-le-mul_right}
 use native.Mathlib.Numerals.{add-one}
 use native.Mathlib.Omega.{arith}
 use lib.Dec.{lit≤}
-use lib.ListN.{length, get_or, set, take, drop, replicate, length-set, length-replicate, get_or-replicate}
+use lib.ListN.{length, get_or, set, take, drop, replicate, length-replicate, get_or-replicate}
 use Rattle.units.specs.declared.Ask.{Ask}
 use Rattle.units.specs.Limits.{last_time, most_light, most_nodes}
 use Rattle.plan.specs.Plan.{Each}
@@ -44,32 +44,32 @@ unfolding most_nodes
 square = lit≤ tt
 
 -- a row of the layers lies inside their words
-pub inside : (layers : Layers) (k : ℕ) → k < most_nodes → (k + 1) * most_nodes ≤ length layers.words
+pub inside : (layers : Layers) (k : ℕ) → k < most_nodes → (k + 1) * most_nodes ≤ length layers.words.now
 inside layers k h = rw layers.full (mul-le-mul_right most_nodes (omega arith))
 
 -- a row that a step keeps holds the same layer
-layer_kept : (entry exit : Layers) (k j : ℕ) {next : List When} → Layered entry exit k next → (j ≡ suc k → ⊥) → layer_of exit.words j ≡ layer_of entry.words j
+layer_kept : (entry exit : Layers) (k j : ℕ) {next : List When} → Layered entry exit k next → (j ≡ suc k → ⊥) → layer_of exit.words.now j ≡ layer_of entry.words.now j
 unfolding layer_of
 layer_kept entry exit k j l h = ap (map when_word) (l.kept j h)
 
 -- so does row k
-layer_this : (entry exit : Layers) (k : ℕ) {next : List When} → Layered entry exit k next → layer_of exit.words k ≡ layer_of entry.words k
+layer_this : (entry exit : Layers) (k : ℕ) {next : List When} → Layered entry exit k next → layer_of exit.words.now k ≡ layer_of entry.words.now k
 layer_this entry exit k l = layer_kept entry exit k k l (λ e. absurd (omega arith))
 
-pub copied_same : (entry layers : Layers) (k : ℕ) → Layered entry layers k (layer_of entry.words k) → layer_of layers.words (k + 1) ≡ layer_of layers.words k
-copied_same entry layers k l = ap (layer_of layers.words) (add-one k) ∙ l.is ∙ sym (layer_this entry layers k l)
+pub copied_same : (entry layers : Layers) (k : ℕ) → Layered entry layers k (layer_of entry.words.now k) → layer_of layers.words.now (k + 1) ≡ layer_of layers.words.now k
+copied_same entry layers k l = ap (layer_of layers.words.now) (add-one k) ∙ l.is ∙ sym (layer_this entry layers k l)
 
-pub next_made : (N : Network) (entry layers exit : Layers) (k : ℕ) → Layered entry layers k (layer_of entry.words k)
-    → Layered layers exit k (relaxed N (layer_of layers.words k) N.contacts) → Layered entry exit k (relaxed N (layer_of entry.words k) N.contacts)
+pub next_made : (N : Network) (entry layers exit : Layers) (k : ℕ) → Layered entry layers k (layer_of entry.words.now k)
+    → Layered layers exit k (relaxed N (layer_of layers.words.now k) N.contacts) → Layered entry exit k (relaxed N (layer_of entry.words.now k) N.contacts)
 next_made N entry layers exit k copy tried = record {
   kept = λ j l. tried.kept j l ∙ copy.kept j l;
   is = tried.is ∙ ap (λ (l : List When). relaxed N l N.contacts) (layer_this entry layers k copy);
 }
 
 pub record RowsTo (N : Network) (layers : Layers) (k : ℕ) : Type 0 where
-  pub rows : (j : ℕ) → j ≤ k → layer_of layers.words j ≡ layer N j
+  pub rows : (j : ℕ) → j ≤ k → layer_of layers.words.now j ≡ layer N j
 
-pub rows_next : (N : Network) (layers exit : Layers) (k : ℕ) → RowsTo N layers k → Layered layers exit k (relaxed N (layer_of layers.words k) N.contacts)
+pub rows_next : (N : Network) (layers exit : Layers) (k : ℕ) → RowsTo N layers k → Layered layers exit k (relaxed N (layer_of layers.words.now k) N.contacts)
     → RowsTo N exit (k + 1)
 unfolding layer
 rows_next N layers exit k r l = record {
@@ -82,7 +82,7 @@ rows_next N layers exit k r l = record {
       (eq-or-lt_of_le h);
 }
 
-pub rows_settled : (N : Network) (layers : Layers) (k : ℕ) → k + 1 < most_nodes → RowsTo N layers (k + 1) → layer_of layers.words (k + 1) ≡ layer_of layers.words k
+pub rows_settled : (N : Network) (layers : Layers) (k : ℕ) → k + 1 < most_nodes → RowsTo N layers (k + 1) → layer_of layers.words.now (k + 1) ≡ layer_of layers.words.now k
     → Filled N layers (k + 1)
 rows_settled N layers k h r same =
     let last_same : layer N (suc k) ≡ layer N k =
@@ -96,12 +96,12 @@ rows_settled N layers k h r same =
 pub rows_all : (N : Network) (layers : Layers) (k : ℕ) → k < most_nodes → k ≡ most_nodes - 1 → RowsTo N layers k → Filled N layers k
 rows_all N layers k h e r = record { most = h; rows = r.rows; settled = ap (layer N) (sym e) }
 
-pub older_kept : (N : Network) (entry exit : Layers) (old k : ℕ) → ((j : ℕ) → (j ≡ suc k → ⊥) → row_of exit.words j ≡ row_of entry.words j)
+pub older_kept : (N : Network) (entry exit : Layers) (old k : ℕ) → ((j : ℕ) → (j ≡ suc k → ⊥) → row_of exit.words.now j ≡ row_of entry.words.now j)
     → Older N entry old k → Older N exit old k
 unfolding layer_of
 older_kept N entry exit old k kept o =
-    let before : layer_of exit.words old ≡ layer_of entry.words old = ap (map when_word) (kept old o.apart) in
-    let this : layer_of exit.words k ≡ layer_of entry.words k = ap (map when_word) (kept k (λ e. absurd (omega arith))) in
+    let before : layer_of exit.words.now old ≡ layer_of entry.words.now old = ap (map when_word) (kept old o.apart) in
+    let this : layer_of exit.words.now k ≡ layer_of entry.words.now k = ap (map when_word) (kept k (λ e. absurd (omega arith))) in
     record {
       inside = o.inside;
       apart = o.apart;
@@ -109,15 +109,15 @@ older_kept N entry exit old k kept o =
     }
 
 pub older_next : (p : Service) (ask : Ask) → Laws (network_of p ask) → (layers exit : Layers) (k : ℕ) → k + 1 < most_nodes
-    → Layered layers exit k (relaxed (network_of p ask) (layer_of layers.words k) (network_of p ask).contacts) → Older (network_of p ask) exit k (k + 1)
+    → Layered layers exit k (relaxed (network_of p ask) (layer_of layers.words.now k) (network_of p ask).contacts) → Older (network_of p ask) exit k (k + 1)
 older_next p ask laws layers exit k h l =
-    let now : layer_of exit.words (k + 1) ≡ relaxed (network_of p ask) (layer_of layers.words k) (network_of p ask).contacts =
-    ap (layer_of exit.words) (add-one k) ∙ l.is in
-    let long : length (layer_of layers.words k) ≡ (network_of p ask).nodes = length_layer_row layers.words k (inside layers k (omega arith)) ∙ sym (nodes_counted p ask) in
+    let now : layer_of exit.words.now (k + 1) ≡ relaxed (network_of p ask) (layer_of layers.words.now k) (network_of p ask).contacts =
+    ap (layer_of exit.words.now) (add-one k) ∙ l.is in
+    let long : length (layer_of layers.words.now k) ≡ (network_of p ask).nodes = length_layer_row layers.words.now k (inside layers k (omega arith)) ∙ sym (nodes_counted p ask) in
     record {
       inside = omega arith;
       apart = λ e. absurd (omega arith);
-      tried = λ c i. rw (now, layer_this layers exit k l) (relaxed_again (network_of p ask) (layer_of layers.words k) c i (rw long (laws.to_node c i)));
+      tried = λ c i. rw (now, layer_this layers exit k l) (relaxed_again (network_of p ask) (layer_of layers.words.now k) c i (rw long (laws.to_node c i)));
     }
 
 -- n times the same, cut short and seen through a function
@@ -154,11 +154,11 @@ unfolding blank_words
 length_blank = length-replicate (most_nodes * most_nodes) never_word
 
 -- the file at its source, at the ask's time
-pub rows_begin : (p : Service) (ask : Ask) → GoodAsk ask → (layers exit : Layers) → layers.words ≡ blank_words
-    → exit.words ≡ set layers.words (0 * most_nodes + (ask.source.0 - 1)) ask.time.0 → RowsTo (network_of p ask) exit 0
+pub rows_begin : (p : Service) (ask : Ask) → GoodAsk ask → (layers exit : Layers) → layers.words.now ≡ blank_words
+    → exit.words.now ≡ set layers.words.now (0 * most_nodes + (ask.source.0 - 1)) ask.time.0 → RowsTo (network_of p ask) exit 0
 unfolding layer network_of
 rows_begin p ask good layers exit ew ee =
-    let e : exit.words ≡ set blank_words (0 * most_nodes + (ask.source.0 - 1)) ask.time.0 =
+    let e : exit.words.now ≡ set blank_words (0 * most_nodes + (ask.source.0 - 1)) ask.time.0 =
     ee ∙ ap (λ (ws : List ℕ). set ws (0 * most_nodes + (ask.source.0 - 1)) ask.time.0) ew in
     let node : ask.source.0 - 1 < most_nodes = omega (arith, good.source_node) in
     let time : ask.time.0 ≤ last_time + most_light = omega (arith, good.time_most) in
@@ -182,20 +182,20 @@ blank_entry j v hj hv =
 
 -- a later row is blank then
 pub older_begin : (p : Service) (ask : Ask) → GoodAsk ask → Laws (network_of p ask) → (layers exit : Layers) (old : ℕ) → 1 < old → old < most_nodes
-    → layers.words ≡ blank_words → exit.words ≡ set layers.words (0 * most_nodes + (ask.source.0 - 1)) ask.time.0 → Older (network_of p ask) exit old 0
+    → layers.words.now ≡ blank_words → exit.words.now ≡ set layers.words.now (0 * most_nodes + (ask.source.0 - 1)) ask.time.0 → Older (network_of p ask) exit old 0
 unfolding layer_of behind
 older_begin p ask good laws layers exit old some most ew ee =
-    let e : exit.words ≡ set blank_words (0 * most_nodes + (ask.source.0 - 1)) ask.time.0 =
+    let e : exit.words.now ≡ set blank_words (0 * most_nodes + (ask.source.0 - 1)) ask.time.0 =
     ee ∙ ap (λ (ws : List ℕ). set ws (0 * most_nodes + (ask.source.0 - 1)) ask.time.0) ew in
     let node : ask.source.0 - 1 < most_nodes = omega (arith, good.source_node) in
-    let row : layer_of exit.words old ≡ layer_of blank_words old =
+    let row : layer_of exit.words.now old ≡ layer_of blank_words old =
     ap (map when_word) (ap (λ (ws : List ℕ). row_of ws old) e ∙ row_set_other blank_words old 0 (ask.source.0 - 1) ask.time.0 (λ z. absurd (omega arith)) node) in
     record {
       inside = most;
       apart = λ z. absurd (omega arith);
       tried = λ c i same.
           let from_node : (network_of p ask).from c < most_nodes = rw nodes_counted at (laws.from_node c i) in
-          let none : get_or (layer_of exit.words 0) ((network_of p ask).from c) never ≡ never =
+          let none : get_or (layer_of exit.words.now 0) ((network_of p ask).from c) never ≡ never =
           sym same ∙ ap (λ (l : List When). get_or l ((network_of p ask).from c) never) row ∙ blank_entry old ((network_of p ask).from c) most from_node in
           rw none last;
     }

@@ -7,7 +7,7 @@
 use mathlib.Core.List.{List}
 use mathlib.Core.Logic.{inl, inr}
 use mathlib.Core.Path.{◌≡◌, sym, ap, ◌∙◌, subst}
-use Prim.Native.Nat.{ℕ, suc, ◌+◌, ◌-◌, ◌*◌, ◌≤◌, ◌<◌}
+use Prim.Native.Nat.{ℕ, suc, ◌+◌, ◌-◌, ◌≤◌, ◌<◌}
 use native.Mathlib.Decide.{dec_le, ℕ_discrete}
 use native.Mathlib.Omega.{arith}
 use lib.ListN.{length, get_or}
@@ -23,7 +23,7 @@ use Rattle.service.specs.Service.{InPlan}
 use Rattle.service.proofs.Bounded.{contact_good}
 use Rattle.service.proofs.HeldLaws.{held_sound, held_counted, held_named, held_contact}
 use Rattle.network.specs.Model.{relax}
-use Rattle.network.specs.Network.{Network, IsContact}
+use Rattle.network.specs.Network.{IsContact}
 use Rattle.search_layers.specs.declared.contact_network.ContactNetwork.{ContactNetwork}
 use Rattle.search_layers.specs.declared.rows.Layers.{Layers}
 use Rattle.search_layers.specs.Bridge.{network_of}
@@ -57,7 +57,7 @@ module _ (n : ContactNetwork) where
 
   -- the contact in row i is from node v, whose word in row k stays
   pub seen_ready : (entry layers : Layers) (k v i ready : ℕ) → i < n.service.contact_count → Seen entry layers k v i
-      → ready ≡ get_or (row_of entry.words k) v 0 → ready ≡ get_or (row_of layers.words k) ((network_in n).from (i + 1)) 0
+      → ready ≡ get_or (row_of entry.words.now k) v 0 → ready ≡ get_or (row_of layers.words.now k) ((network_in n).from (i + 1)) 0
   seen_ready entry layers k v i ready below seen e =
       let back : (i + 1) - 1 ≡ i = omega arith in
       let from : (network_in n).from (i + 1) ≡ v =
@@ -74,7 +74,7 @@ module _ (n : ContactNetwork) where
     next_later = next_least.no_earlier
 
     pub seen_next : (entry layers exit : Layers) (k v : ℕ) → k + 1 < most_nodes → Seen entry layers k v i
-        → Layered layers exit k (relax (network_in n) (layer_of layers.words k) (i + 1) (layer_of layers.words (k + 1))) → Seen entry exit k v r
+        → Layered layers exit k (relax (network_in n) (layer_of layers.words.now k) (i + 1) (layer_of layers.words.now (k + 1))) → Seen entry exit k v r
     seen_next entry layers exit k v inside seen step =
         let this = row_contact i below in
         record {

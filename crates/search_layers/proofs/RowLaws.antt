@@ -7,7 +7,7 @@
 -- Assumes nothing.
 use mathlib.Core.List.{List, [], ◌∷◌, map}
 use mathlib.Core.Bool.{Bool, true, false, cond}
-use mathlib.Core.Logic.{inl, inr, ⊎_elim}
+use mathlib.Core.Logic.{⊎_elim}
 use mathlib.Core.Path.{◌≡◌, refl, sym, ap, ◌∙◌, subst}
 use Prim.Native.Nat.{ℕ, zero, suc, ◌+◌, ◌-◌, ◌*◌, ◌≤◌, ◌<◌, zero-le, suc-le-suc, min}
 use native.Mathlib.Nat.{not-suc-le-zero, le_of_suc-le-suc, mul-le-mul_right}
@@ -24,7 +24,7 @@ use Rattle.plan.specs.Plan.{Each}
 use Rattle.network.specs.Model.{earlier}
 use Rattle.network.specs.Network.{at, never, NotLater, both, last}
 use Rattle.search_layers.specs.Bridge.{when_of}
-use Rattle.search_layers.specs.Words.{never_word, when_word, time_word, TimeWord, TimeGood, row_of, layer_of}
+use Rattle.search_layers.specs.Words.{never_word, when_word, time_word, TimeWord, row_of, layer_of}
 
 pub when_never : (w : ℕ) → w ≡ never_word → when_word w ≡ never
 unfolding when_word
@@ -131,8 +131,14 @@ row_most words k = omega (arith, length-take most_nodes (drop (k * most_nodes) w
 pub row_long : (words entry : List ℕ) (k : ℕ) → length words ≡ length entry → length (row_of words k) ≡ length (row_of entry k)
 unfolding row_of
 row_long words entry k same =
-    omega (arith, same, length-take most_nodes (drop (k * most_nodes) words), length-drop (k * most_nodes) words, length-take most_nodes (drop (k * most_nodes) entry),
-      length-drop (k * most_nodes) entry)
+    omega (
+      arith,
+      same,
+      length-take most_nodes (drop (k * most_nodes) words),
+      length-drop (k * most_nodes) words,
+      length-take most_nodes (drop (k * most_nodes) entry),
+      length-drop (k * most_nodes) entry,
+    )
 
 pub get_d_row : (words : List ℕ) (k v d : ℕ) → v < most_nodes → get_or (row_of words k) v d ≡ get_or words (k * most_nodes + v) d
 unfolding row_of

@@ -1,13 +1,12 @@
 -- That a word is a time word, and that contacts are in lists, has one proof at most, as a fact that a struct keeps must have. A reader of the promises
 -- may skip it.
 -- Assumes nothing.
-use Rattle.std.specs.Prelude.{List, ℕ, ◌<◌, ◌≡◌}
+use Rattle.std.specs.Prelude.{List, ℕ, ◌≡◌}
 use Rattle.std.specs.Coded.{le_prop}
 use Rattle.std.proofs.Props.{props}
 use Rattle.std.proofs.Common.{inl, inr, ap}
 use native.Mathlib.Omega.{arith}
-use Rattle.plan_lists.specs.Leaving.{from_at}
-use Rattle.plan_lists.specs.Lists.{LeastFrom, Nexts, Linked}
+use Rattle.plan_lists.specs.Lists.{Nexts, Linked}
 use Rattle.units.specs.Limits.{last_time, most_light}
 use Rattle.search_layers.specs.Words.{never_word, TimeWord, Listed}
 

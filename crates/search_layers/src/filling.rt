@@ -20,8 +20,8 @@ use units::CheckedAsk;
 // whether it is known to be the same.
 fn next_row(net: &ContactNetwork, layers: &mut Layers, old: usize, k: usize) -> bool
     requires { (k + 1 < most_nodes) × Older (network_in net.now) layers.old old k }
-    ensures row { Layered layers.old layers.new k (relaxed (network_in net.now) (layer_of layers.old.words k) (network_in net.now).contacts) }
-    ensures same { result ≡ true → layer_of layers.new.words (k + 1) ≡ layer_of layers.new.words k }
+    ensures row { Layered layers.old layers.new k (relaxed (network_in net.now) (layer_of layers.old.words.now k) (network_in net.now).contacts) }
+    ensures same { result ≡ true → layer_of layers.new.words.now (k + 1) ≡ layer_of layers.new.words.now k }
 {
     layers.copy_row(k);
     try_all(net, layers, old, k)
@@ -29,8 +29,9 @@ fn next_row(net: &ContactNetwork, layers: &mut Layers, old: usize, k: usize) -> 
 
 // Fills the rows with the layers and answers the last one worked out: every later layer is the same. Row 0
 // has none before it, and is held against the last row, which is blank still.
+#[tactic(auto, unfolding(units::specs::Limits::most_nodes))]
 fn fill_rows(net: &ContactNetwork, layers: &mut Layers) -> usize
-    requires { layers.old.words ≡ blank_words }
+    requires { layers.old.words.now ≡ blank_words }
     ensures { Filled (network_in net.now) layers.new result }
 {
     layers.put(0, net.ask.asked.source, net.ask.asked.time);
@@ -46,12 +47,17 @@ fn fill_rows(net: &ContactNetwork, layers: &mut Layers) -> usize
 
 // The same over a plan as it serves the ask, with its contacts put into lists.
 pub fn fill(service: &ServedPlan, ask: CheckedAsk, layers: &mut Layers) -> usize
-    requires { layers.old.words ≡ blank_words }
+    requires { layers.old.words.now ≡ blank_words }
     ensures { Filled (network_of (service_in service.now) ask.asked) layers.new result }
 {
     let mut heads = [BLANK; NODES];
     let mut nexts = [BLANK; MOST_ROWS];
-    link_from(service.contacts, service.contact_count, &mut heads, &mut nexts);
+    link_from(
+        service.contacts,
+        service.contact_count,
+        &mut heads,
+        &mut nexts,
+    );
     let net = ContactNetwork {
         service: *service,
         ask,

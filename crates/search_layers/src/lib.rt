@@ -8,7 +8,6 @@ mod filling;
 mod rows;
 mod trying;
 
-pub use contact_network::ContactNetwork;
 pub use filling::fill;
 pub use rows::{Layers, NEVER};
 pub use trying::arrive;

@@ -1,7 +1,7 @@
-// The words of the layers: a row of words a layer, a word a node. `word`, `put` and `copy_row` alone know
-// where the row of a layer stands, and that node n stands at word n - 1 of it.
-ghost use Rattle.std.specs.Prelude.{◌≡◌, ◌*◌, length};
-ghost use Rattle.units.specs.Limits.{most_nodes};
+// The words of the layers: a row of words a layer, a word a node. `place` and `copy_row` alone know where a
+// row stands, and that node n stands at word n - 1 of it.
+ghost use Rattle.std.specs.Prelude.{◌≡◌, ◌+◌, ◌-◌, ◌*◌, ◌<◌, length};
+ghost use Rattle.units.specs.Limits.{most_nodes, IsNode};
 ghost use Rattle.plan.specs.Plan.{Each};
 ghost use Rattle.plan.specs.Props.{each_prop};
 ghost use Rattle.search_layers.specs.Words.{TimeWord};
@@ -16,34 +16,43 @@ pub const NODES: usize = 64;
 // word by word and not byte by byte.
 pub const NEVER: u64 = 18_446_744_073_709_551_614;
 
-// 64 layers of 64 nodes. A word is a time, or NEVER and not an Option, for fixed memory: an Option is twice
-// as long as its time.
-#[derive(Drop)]
-pub struct Layers {
-    pub words: [u64; 4096],
-    pub ghost full: { length words ≡ most_nodes * most_nodes },
-    pub ghost timed: { Each TimeWord words } by { each_prop _ is_time_word_prop _ },
+// Where the word of the node in row k stands.
+#[tactic(auto, unfolding(units::specs::Limits::most_nodes))]
+fn place(k: usize, node: NodeNo) -> usize
+    requires { (k < most_nodes) × IsNode node }
+    ensures { (result ≡ k * most_nodes + (node.0 - 1)) × (result < most_nodes * most_nodes) }
+{
+    k * NODES + (node.0 - 1) as usize
 }
 
-impl Layers {
-    ghost use Rattle.std.specs.Prelude.{◌+◌, ◌-◌, ◌≤◌, ◌<◌, get_or, set};
-    ghost use Rattle.units.specs.Limits.{last_time, most_light, IsNode};
+// 64 layers of 64 nodes. A word is a time, or NEVER and not an Option, for fixed memory: an Option is twice
+// as long as its time. The words are lent: a struct with the words in it would be copied when it is made.
+#[derive(Drop)]
+pub struct Layers<'a> {
+    pub words: &'a mut [u64],
+    pub ghost full: { length words.now ≡ most_nodes * most_nodes },
+    pub ghost timed: { Each TimeWord words.now } by { each_prop _ is_time_word_prop _ },
+}
+
+impl<'a> Layers<'a> {
+    ghost use Rattle.std.specs.Prelude.{◌≤◌, get_or, set};
+    ghost use Rattle.units.specs.Limits.{last_time, most_light};
     ghost use Rattle.search_layers.specs.Layered.{Layered};
     ghost use Rattle.search_layers.specs.Words.{TimeGood, time_word, row_of, layer_of};
 
     // The word of the node in row k.
+    #[tactic(auto, unfolding(units::specs::Limits::most_nodes))]
     pub fn word(&self, k: usize, node: NodeNo) -> u64
         requires { (k < most_nodes) × IsNode node }
-        ensures { result ≡ get_or (row_of self.now.words k) (node.0 - 1) 0 }
+        ensures { result ≡ get_or (row_of self.now.words.now k) (node.0 - 1) 0 }
     {
-        let v = (node.0 - 1) as usize;
-        self.words[k * NODES + v]
+        self.words[place(k, node)]
     }
 
     // When the file is at the node at the earliest, as row k has it.
     pub fn get(&self, k: usize, node: NodeNo) -> Option<Millis>
         requires { (k < most_nodes) × IsNode node }
-        ensures time { result ≡ time_word (get_or (row_of self.now.words k) (node.0 - 1) 0) }
+        ensures time { result ≡ time_word (get_or (row_of self.now.words.now k) (node.0 - 1) 0) }
         ensures good { TimeGood result }
     {
         let word = self.word(k, node);
@@ -55,20 +64,23 @@ impl Layers {
     }
 
     // Stores that time for the node in row k.
+    #[tactic(auto, unfolding(units::specs::Limits::most_nodes))]
     pub(crate) fn put(&mut self, k: usize, node: NodeNo, time: Millis)
         requires { (k < most_nodes) × IsNode node × (time.0 ≤ last_time + most_light) }
-        ensures { self.new.words ≡ set self.old.words (k * most_nodes + (node.0 - 1)) time.0 }
+        ensures { self.new.words.now ≡ set self.old.words.now (k * most_nodes + (node.0 - 1)) time.0 }
     {
-        let v = (node.0 - 1) as usize;
-        self.words[k * NODES + v] = time.0;
+        let at = place(k, node);
+        self.words[at] = time.0;
     }
 
     // Row k copied into row k + 1.
+    #[tactic(auto, unfolding(units::specs::Limits::most_nodes))]
     pub(crate) fn copy_row(&mut self, k: usize)
         requires { k + 1 < most_nodes }
-        ensures { Layered self.old self.new k (layer_of self.old.words k) }
+        ensures { Layered self.old self.new k (layer_of self.old.words.now k) }
     {
         let next = (k + 1) * NODES;
-        self.words.copy_within(k * NODES..next, next);
+        let words = &mut *self.words;
+        words.copy_within(k * NODES..next, next);
     }
 }

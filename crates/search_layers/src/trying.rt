@@ -57,8 +57,8 @@ fn is_late(pass: Contact, ready: Millis, there: u64) -> bool
 // One contact tried: the node that it is to may be reached earlier by it, in row k + 1, where `ready` is when
 // the file is at the node that it is from, as row k has it.
 fn try_contact(net: &ContactNetwork, layers: &mut Layers, k: usize, no: ContactNo, ready: Millis)
-    requires { (k + 1 < most_nodes) × InPlan (service_in net.now.service) no.0 × (ready.0 ≡ get_or (row_of layers.old.words k) ((network_in net.now).from no.0) 0) × (ready.0 ≤ last_time + most_light) }
-    ensures { Layered layers.old layers.new k (relax (network_in net.now) (layer_of layers.old.words k) no.0 (layer_of layers.old.words (k + 1))) }
+    requires { (k + 1 < most_nodes) × InPlan (service_in net.now.service) no.0 × (ready.0 ≡ get_or (row_of layers.old.words.now k) ((network_in net.now).from no.0) 0) × (ready.0 ≤ last_time + most_light) }
+    ensures { Layered layers.old layers.new k (relax (network_in net.now) (layer_of layers.old.words.now k) no.0 (layer_of layers.old.words.now (k + 1))) }
 {
     let pass = net.service.contact(no);
     let there = layers.word(k + 1, pass.to);
@@ -99,9 +99,9 @@ fn try_changed(
 ) -> bool
     requires inside { (k + 1 < most_nodes) × IsNode node }
     requires older { Older (network_in net.now) layers.old old k }
-    requires lower { (u : ℕ) → NotLater (get_or (layer_of layers.old.words (k + 1)) u never) (get_or (layer_of layers.old.words k) u never) }
+    requires lower { (u : ℕ) → NotLater (get_or (layer_of layers.old.words.now (k + 1)) u never) (get_or (layer_of layers.old.words.now k) u never) }
     ensures tried { Tried (network_in net.now) layers.old layers.new k (λ c. (network_in net.now).from c ≡ node.0 - 1) }
-    ensures same { result ≡ false → layers.new.words ≡ layers.old.words }
+    ensures same { result ≡ false → layers.new.words.now ≡ layers.old.words.now }
 {
     if layers.word(old, node) == layers.word(k, node) {
         return false;
@@ -112,12 +112,13 @@ fn try_changed(
 
 // The contacts from every node tried, one node after the other. Answers whether no node's words differed:
 // then nothing was tried.
+#[tactic(auto, unfolding(units::specs::Limits::most_nodes))]
 pub fn try_all(net: &ContactNetwork, layers: &mut Layers, old: usize, k: usize) -> bool
     requires inside { k + 1 < most_nodes }
     requires older { Older (network_in net.now) layers.old old k }
-    requires copied { layer_of layers.old.words (k + 1) ≡ layer_of layers.old.words k }
-    ensures row { Layered layers.old layers.new k (relaxed (network_in net.now) (layer_of layers.old.words k) (network_in net.now).contacts) }
-    ensures same { result ≡ true → layers.new.words ≡ layers.old.words }
+    requires copied { layer_of layers.old.words.now (k + 1) ≡ layer_of layers.old.words.now k }
+    ensures row { Layered layers.old layers.new k (relaxed (network_in net.now) (layer_of layers.old.words.now k) (network_in net.now).contacts) }
+    ensures same { result ≡ true → layers.new.words.now ≡ layers.old.words.now }
 {
     let mut same = true;
     for v in 0..MOST_NODES {

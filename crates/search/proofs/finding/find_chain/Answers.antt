@@ -1,8 +1,8 @@
 -- `search::finding::find_chain` meets its contract.
 -- Assumes nothing.
-use mathlib.Core.Path.{◌≡◌, refl, sym, ◌∙◌, subst}
+use mathlib.Core.Path.{refl, sym, ◌∙◌, subst}
 use Prim.Native.Nat.{◌≤◌, ◌<◌}
-use native.Mathlib.Nat.{le_refl, le_trans}
+use native.Mathlib.Nat.{le_trans}
 use native.Mathlib.Omega.{arith}
 use Rattle.std.proofs.Common.{rules}
 use Rattle.units.specs.Limits.{most_nodes}

@@ -1,9 +1,8 @@
 -- `search::routing::route_served` meets its contract.
 -- Assumes nothing.
-use mathlib.Core.Path.{◌≡◌, sym, ap, ◌∙◌}
-use Prim.Native.Nat.{◌≤◌}
+use mathlib.Core.Path.{sym, ◌∙◌}
 use native.Mathlib.Omega.{arith}
-use lib.ListN.{length, take, length-take}
+use lib.ListN.{length-take}
 use Rattle.service.proofs.HeldLaws.{held_sound}
 use Rattle.walk.proofs.WalkCode.{hands_on}
 use Rattle.search.proofs.RouteCode.{answer_none, answer_best, chain_counted, chain_named, chain_some}

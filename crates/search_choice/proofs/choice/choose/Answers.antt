@@ -2,16 +2,11 @@
 -- Assumes nothing.
 use mathlib.Core.Path.{refl}
 use native.Mathlib.Omega.{arith}
-use Rattle.units.specs.Limits.{last_time, most_light}
 use Rattle.search_choice.specs.Model.{chain_of}
 use Rattle.search_choice.proofs.ChooseCode.{working_begins, working_ends, lead_named, one_leads, found_leads, found_goes}
 use Rattle.search_layers.proofs.FillCode.{held_laws}
 use Rattle.search_layers.proofs.ReadCode.{Read, read_by}
 use Rattle.search_choice.proofs.choice.choose.Goals as goal
-
-pub overflow_add-limit : goal.overflow_add-limit
-unfolding last_time most_light
-overflow_add-limit c = omega (arith, c.requires.delivered.1)
 
 pub loop-k-init : goal.loop-k-init
 loop-k-init c =
@@ -39,7 +34,7 @@ loop-k-preserved c =
     let laws = held_laws c.args.service.now c.args.ask in
     let read : Read _ _ _ = read_by _ _ _ c.contact.ensures.is c.contact.ensures.good in (
       found_goes _ _ laws _ _ _ _ _ _ _ _ _ _ c.loop-k-test.true c.loop-k.invariant.0 pre.rows c.lowest_leading-no.ensures _ _ _ pre.room.1 refl read
-      c.back_over-limit.ensures,
+          c.back_over-limit.ensures,
       read.good.from_node,
     )
 

@@ -10,4 +10,4 @@ use Rattle.search_layers.proofs.trying.try_all.Given as goal
 
 abbrev pub invariant-loop-v : goal.invariant-loop-v
 invariant-loop-v l = Tried (network_in l.net) l.initial.layers l.layers l.k (λ c. (network_in l.net).from c < l.v)
-    × (l.same ≡ true → l.layers.words ≡ l.initial.layers.words)
+    × (l.same ≡ true → l.layers.words.now ≡ l.initial.layers.words.now)

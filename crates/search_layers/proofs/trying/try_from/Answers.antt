@@ -1,6 +1,6 @@
 -- `search_layers::trying::try_from` meets its contract. The loop's invariant: the contacts from the node before row i are tried.
 -- Assumes nothing.
-use mathlib.Core.Path.{◌≡◌, sym, ◌∙◌, subst}
+use mathlib.Core.Path.{sym, ◌∙◌, subst}
 use native.Mathlib.Omega.{arith}
 use Rattle.search_layers.specs.Words.{TimeGood}
 use Rattle.search_layers.proofs.ListedCode.{row_named, seen_first, seen_ready, seen_next, next_later, seen_all}

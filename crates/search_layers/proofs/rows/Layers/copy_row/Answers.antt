@@ -1,30 +1,9 @@
 -- `search_layers::rows::Layers::copy_row` meets its contract.
 -- Assumes nothing.
 use mathlib.Core.Path.{◌∙◌}
-use native.Mathlib.Omega.{arith}
 use Rattle.units.specs.Limits.{most_nodes}
 use Rattle.search_layers.proofs.CopyCode.{copied_timed, row_kept, row_copied, copied_row}
 use Rattle.search_layers.proofs.rows.Layers.copy_row.Goals as goal
-
-pub overflow_add-next : goal.overflow_add-next
-unfolding most_nodes
-overflow_add-next c = omega (arith, c.requires)
-
-pub overflow_mul-next : goal.overflow_mul-next
-unfolding most_nodes
-overflow_mul-next c = omega (arith, c.requires)
-
-pub overflow_mul-k : goal.overflow_mul-k
-unfolding most_nodes
-overflow_mul-k c = omega (arith, c.requires)
-
-pub copy_within-requires-clause-in_bounds : goal.copy_within-requires-clause-in_bounds
-unfolding most_nodes
-copy_within-requires-clause-in_bounds c = omega (arith, c.requires, c.args.self.now.full)
-
-pub copy_within-requires-clause-dest_in_bounds : goal.copy_within-requires-clause-dest_in_bounds
-unfolding most_nodes
-copy_within-requires-clause-dest_in_bounds c = omega (arith, c.requires, c.args.self.now.full)
 
 pub invariant_of-self : goal.invariant_of-self
 unfolding most_nodes

@@ -19,5 +19,5 @@ pub returns-else-word-clause-good : goal.returns-else-word-clause-good
 unfolding never_word
 returns-else-word-clause-good c =
     let layers = c.args.self.now in
-    let timed = time_row layers.words c.args.k _ layers.timed (inside layers _ c.requires.0) (node_below _ c.requires.1) in
+    let timed = time_row layers.words.now c.args.k _ layers.timed (inside layers _ c.requires.0) (node_below _ c.requires.1) in
     word_good _ (subst TimeWord (sym c.word-word.ensures) timed) c.if-word.false
