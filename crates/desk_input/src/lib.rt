@@ -13,7 +13,6 @@ pub fn read_full(from: &mut impl Read, buf: &mut [u8]) -> usize
     ensures { IsPrefixLen result buf.new }
 {
     let mut done = 0;
-    // A read may put fewer bytes than there is room for: no `for`.
     while done < buf.len() {
         let n = from.read(&mut buf[done..]).unwrap_or(0);
         if n == 0 {

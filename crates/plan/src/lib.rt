@@ -8,8 +8,6 @@ mod rows;
 mod tables;
 mod valid;
 
-pub use rows::{
-    Contact, Range, Row, Span, WORDS, contact_numbered, span_row,
-};
+pub use rows::{Contact, Range, Row, Span, WORDS, contact_numbered, span_row};
 pub use tables::PlanTables;
 pub use valid::{is_clear, is_overlap};

@@ -35,11 +35,7 @@ pub fn route_served(
 }
 
 // The same over a checked plan, by way of a table of light times and one of what is left, on the stack.
-fn route_plan(
-    plan: &CheckedPlan,
-    ask: CheckedAsk,
-    chain: &mut [u64],
-) -> Result<Best, Refusal>
+fn route_plan(plan: &CheckedPlan, ask: CheckedAsk, chain: &mut [u64]) -> Result<Best, Refusal>
     requires { (ask.asked.source.0 ≡ ask.asked.destination.0 → ⊥) × (most_chain ≤ length chain.old) }
     ensures best { result ≡ route_model (service_of (plan_in plan.now.tables) unused) ask.asked }
     ensures chain { chain.new ≡ route_after (service_of (plan_in plan.now.tables) unused) ask.asked chain.old }

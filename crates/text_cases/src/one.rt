@@ -41,12 +41,7 @@ fn refused(rt: &impl Print, why: Refusal) {
 }
 
 // The text written back into `out`: its length, where the bytes are the same.
-fn back_into(
-    rt: &impl Print,
-    text: &[u8],
-    tables: PlanTables,
-    out: &mut [u8],
-) {
+fn back_into(rt: &impl Print, text: &[u8], tables: PlanTables, out: &mut [u8]) {
     match write(tables, out) {
         Ok(k) => {
             if out.get(..k).is_some_and(|bytes| bytes == text) {

@@ -16,7 +16,13 @@ fn put_plan(out: &mut [u8], plan: &CheckedPlan) -> usize
 {
     let tables = plan.tables;
     let first = put_bytes(out, 0, b"plan\t1\n");
-    let second = put_rows(out, first, b"contact", tables.contacts, tables.contact_count);
+    let second = put_rows(
+        out,
+        first,
+        b"contact",
+        tables.contacts,
+        tables.contact_count,
+    );
     put_rows(out, second, b"range", tables.ranges, tables.range_count)
 }
 
