@@ -9,7 +9,8 @@ fn fill(rt: &impl Print, from: &mut impl Read, text: &mut [u8]) {
     judge(rt, text);
 }
 
-// The next text read and judged, so that there is no value to hand back; false where there is none. Its length stands in four bytes before it, the highest first.
+// The next text read and judged, so that there is no value to hand back; false where there is none. Its
+// length stands in four bytes before it, the highest first.
 fn next(rt: &impl Print, from: &mut impl Read, text: &mut [u8]) -> bool {
     let mut head = [0u8; 4];
     if read_full(from, &mut head) < 4 {
