@@ -8,7 +8,7 @@ ghost use Rattle.search.specs.Model.{find_model, route_after};
 
 use crate::answer::Found;
 use search_choice::{choose, first_row};
-use search_layers::{Layers, NEVER, fill};
+use search_layers::{Layers, NEVER, fill, get};
 use service::ServedPlan;
 use units::{CheckedAsk, Refusal};
 
@@ -27,13 +27,14 @@ pub fn find_chain(
     let mut words = [NEVER; 4096];
     let mut layers = Layers { words: &mut words };
     let last = fill(service, ask, &mut layers);
-    let Some(delivered) = layers.get(last, ask.asked.destination) else {
+    let Layers { words, .. } = layers;
+    let Some(delivered) = get(words, last, ask.asked.destination) else {
         return Err(Refusal::NoChain);
     };
     if ask.asked.deadline <= delivered {
         return Err(Refusal::TooLate);
     }
-    let count = first_row(&layers, last, ask.asked.destination, delivered);
-    choose(service, ask, &layers, count, delivered, chain);
+    let count = first_row(words, last, ask.asked.destination, delivered);
+    choose(service, ask, words, count, delivered, chain);
     Ok(Found { delivered, count })
 }

@@ -5,11 +5,11 @@
 use mathlib.Core.Bool.{true, false}
 use mathlib.Core.List.{List}
 use mathlib.Core.Path.{◌≡◌, refl, sym, ap, ◌∙◌}
-use Prim.Native.Nat.{ℕ, suc, ◌+◌, ◌-◌, ◌≤◌, ◌<◌}
+use Prim.Native.Nat.{ℕ, suc, ◌+◌, ◌-◌, ◌*◌, ◌≤◌, ◌<◌}
 use native.Mathlib.Numerals.{add-one}
 use native.Mathlib.Omega.{arith}
 use borrow.Author.Tests.{eq-eqb, ne_eqb}
-use lib.ListN.{get_or}
+use lib.ListN.{get_or, length}
 use Rattle.std.specs.Prelude.{Option, Some, None}
 use Rattle.units.specs.declared.Millis.{Millis}
 use Rattle.units.specs.Limits.{most_nodes, IsNode}
@@ -20,10 +20,8 @@ use Rattle.service.specs.Service.{Service}
 use Rattle.walk.specs.Model.{is_before}
 use Rattle.network.specs.Model.{behind, is_within, leads, lowest_from, lowest}
 use Rattle.network.specs.Network.{When, never, Network}
-use Rattle.search_layers.specs.declared.rows.Layers.{Layers}
 use Rattle.search_layers.specs.Bridge.{when_of, network_of}
 use Rattle.search_layers.specs.Words.{time_word, row_of, layer_of}
-use Rattle.search_layers.proofs.FillCode.{inside}
 use Rattle.search_layers.proofs.NetworkLaws.{node_below}
 use Rattle.search_layers.proofs.ReadCode.{Read, read_from, read_to}
 use Rattle.search_layers.proofs.RowLaws.{time_when, get_d_layer}
@@ -35,18 +33,18 @@ within_time (Some t) limit = refl
 within_time None limit = refl
 
 -- contact c was read as x, and is held against a node and a limit
-module _ (p : Service) (ask : Ask) (layers : Layers) (k : ℕ) (node : NodeNo) (limit c : ℕ) (x : Contact) (is-node : IsNode node) (read : Read p c x) where
-  pub leads_elsewhere : (x.to.0 ≡ node.0 → ⊥) → false ≡ leads (network_of p ask) (layer_of layers.words.now k) (node.0 - 1) limit c
+module _ (p : Service) (ask : Ask) (words : List ℕ) (k : ℕ) (node : NodeNo) (limit c : ℕ) (x : Contact) (is-node : IsNode node) (read : Read p c x) where
+  pub leads_elsewhere : (x.to.0 ≡ node.0 → ⊥) → false ≡ leads (network_of p ask) (layer_of words k) (node.0 - 1) limit c
   unfolding leads
   leads_elsewhere h =
       rw (read_to p ask c x read, ne_eqb (x.to.0 - 1) (node.0 - 1) (λ e. h (omega (arith, is-node.least, read.good.to_node.least))))
 
-  pub leads_by : x.to.0 ≡ node.0 → k < most_nodes → (ready a : Option Millis) → ready ≡ time_word (get_or (row_of layers.words.now k) (x.from.0 - 1) 0)
-      → when_of a ≡ behind (network_of p ask) c (when_of ready) → is_before a limit ≡ leads (network_of p ask) (layer_of layers.words.now k) (node.0 - 1) limit c
+  pub leads_by : x.to.0 ≡ node.0 → (k + 1) * most_nodes ≤ length words → (ready a : Option Millis) → ready ≡ time_word (get_or (row_of words k) (x.from.0 - 1) 0)
+      → when_of a ≡ behind (network_of p ask) c (when_of ready) → is_before a limit ≡ leads (network_of p ask) (layer_of words k) (node.0 - 1) limit c
   unfolding leads
   leads_by h room ready a er comes =
-      let from_word : get_or (layer_of layers.words.now k) (x.from.0 - 1) never ≡ when_of ready =
-      get_d_layer layers.words.now k (x.from.0 - 1) (inside layers k room) (node_below x.from read.good.from_node) ∙ sym (time_when _) ∙ ap when_of (sym er) in
+      let from_word : get_or (layer_of words k) (x.from.0 - 1) never ≡ when_of ready =
+      get_d_layer words k (x.from.0 - 1) room (node_below x.from read.good.from_node) ∙ sym (time_when _) ∙ ap when_of (sym er) in
       rw (read_to p ask c x read, eq-eqb (x.to.0 - 1) (node.0 - 1) (ap (λ (n : ℕ). n - 1) h), read_from p ask c x read, from_word, ← comes) (within_time a limit)
 
 module _ (N : Network) (before : List When) (v limit m tried : ℕ) where

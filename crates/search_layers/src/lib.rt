@@ -9,5 +9,5 @@ mod rows;
 mod trying;
 
 pub use filling::fill;
-pub use rows::{Layers, NEVER};
+pub use rows::{Layers, NEVER, get, word};
 pub use trying::arrive;

@@ -33,7 +33,7 @@ loop-k-preserved c =
     let pre = c.requires in
     let laws = held_laws c.args.service.now c.args.ask in
     let read : Read _ _ _ = read_by _ _ _ c.contact.ensures.is c.contact.ensures.good in (
-      found_goes _ _ laws _ _ _ _ _ _ _ _ _ _ c.loop-k-test.true c.loop-k.invariant.0 pre.rows c.lowest_leading-no.ensures _ _ _ pre.room.1 refl read
+      found_goes _ _ laws _ _ _ _ _ _ _ _ _ _ c.loop-k-test.true c.loop-k.invariant.0 pre.rows c.lowest_leading-no.ensures _ _ _ pre.room refl read
           c.back_over-limit.ensures,
       read.good.from_node,
     )

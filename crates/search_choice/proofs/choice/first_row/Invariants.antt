@@ -7,4 +7,4 @@ use Rattle.search_layers.specs.Words.{row_of}
 use Rattle.search_choice.proofs.choice.first_row.Given as goal
 
 abbrev pub invariant-loop-k : goal.invariant-loop-k
-invariant-loop-k l = (j : ℕ) → j < l.k → get_or (row_of l.layers.words.now j) (l.node.0 - 1) 0 ≡ l.time.0 → ⊥
+invariant-loop-k l = (j : ℕ) → j < l.k → get_or (row_of l.words j) (l.node.0 - 1) 0 ≡ l.time.0 → ⊥

@@ -11,7 +11,7 @@ pub returns-then-ne : goal.returns-then-ne
 returns-then-ne c =
     let apart : c.contact-pass.result.to.0 ≡ c.args.node.0 → ⊥ = search (rules, c.if-ne.ensures) in
     let read : Read _ _ _ = read_by _ _ _ c.contact-pass.ensures.is c.contact-pass.ensures.good in
-    leads_elsewhere _ _ c.args.layers.now _ _ _ _ _ c.requires.2 read apart
+    leads_elsewhere _ _ _ _ _ _ _ _ c.requires.3 read apart
 
 pub returns : goal.returns
 returns c =
@@ -19,4 +19,4 @@ returns c =
     let same : c.contact-pass.result.to.0 ≡ c.args.node.0 = search (rules, c.if-ne.ensures) in
     let read : Read _ _ _ = read_by _ _ _ c.contact-pass.ensures.is c.contact-pass.ensures.good in
     before
-    ∙ leads_by _ _ c.args.layers.now _ _ _ _ _ c.requires.2 read same c.requires.1 _ _ c.get-ready.ensures.time c.arrive.ensures.time
+    ∙ leads_by _ _ _ _ _ _ _ _ c.requires.3 read same c.requires.2 _ _ c.get-ready.ensures.time c.arrive.ensures.time

@@ -12,7 +12,7 @@ loop-i-init c = lowest_begins _ _ _ _ _ 0 (contacts_counted c.args.service.now c
 
 pub is_leading-requires : goal.is_leading-requires
 is_leading-requires c =
-    (held_named c.args.service.now _ (omega arith) (omega (arith, c.loop-i-test.true)), c.requires.inside.0, c.requires.inside.1)
+    (held_named c.args.service.now _ (omega arith) (omega (arith, c.loop-i-test.true)), c.requires.layers.0, c.requires.layers.1, c.requires.layers.2)
 
 pub returns-then-is_leading : goal.returns-then-is_leading
 returns-then-is_leading c =

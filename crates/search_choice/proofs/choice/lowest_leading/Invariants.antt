@@ -9,5 +9,5 @@ use Rattle.search_layers.specs.Words.{layer_of}
 use Rattle.search_choice.proofs.choice.lowest_leading.Given as goal
 
 abbrev pub invariant-loop-i : goal.invariant-loop-i
-invariant-loop-i l = lowest (network_of (service_in l.service) l.ask.asked) (layer_of l.layers.words.now l.row) (l.node.0 - 1) l.limit.0
-    ≡ lowest_from (network_of (service_in l.service) l.ask.asked) (layer_of l.layers.words.now l.row) (l.node.0 - 1) l.limit.0 (l.i + 1) (l.service.contact_count - l.i)
+invariant-loop-i l = lowest (network_of (service_in l.service) l.ask.asked) (layer_of l.words l.row) (l.node.0 - 1) l.limit.0
+    ≡ lowest_from (network_of (service_in l.service) l.ask.asked) (layer_of l.words l.row) (l.node.0 - 1) l.limit.0 (l.i + 1) (l.service.contact_count - l.i)

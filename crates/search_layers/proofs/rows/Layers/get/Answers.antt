@@ -1,23 +1,10 @@
 -- `search_layers::rows::Layers::get` meets its contract.
 -- Assumes nothing.
-use mathlib.Core.Path.{◌∙◌, ap, sym, subst}
-use Rattle.search_layers.specs.Words.{never_word, time_word, TimeWord}
 use Rattle.search_layers.proofs.FillCode.{inside}
-use Rattle.search_layers.proofs.NetworkLaws.{node_below}
-use Rattle.search_layers.proofs.RowLaws.{time_none, time_some, time_row, word_good}
 use Rattle.search_layers.proofs.rows.Layers.get.Goals as goal
 
-pub returns-then-word-clause-time : goal.returns-then-word-clause-time
-unfolding never_word
-returns-then-word-clause-time c = time_none _ c.if-word.true ∙ ap time_word c.word-word.ensures
+pub get-requires : goal.get-requires
+get-requires c = (inside c.args.self.now _ c.requires.0, c.requires.1)
 
-pub returns-else-word-clause-time : goal.returns-else-word-clause-time
-unfolding never_word
-returns-else-word-clause-time c = time_some _ c.if-word.false ∙ ap time_word c.word-word.ensures
-
-pub returns-else-word-clause-good : goal.returns-else-word-clause-good
-unfolding never_word
-returns-else-word-clause-good c =
-    let layers = c.args.self.now in
-    let timed = time_row layers.words.now c.args.k _ layers.timed (inside layers _ c.requires.0) (node_below _ c.requires.1) in
-    word_good _ (subst TimeWord (sym c.word-word.ensures) timed) c.if-word.false
+pub returns-clause-good : goal.returns-clause-good
+returns-clause-good c = c.get.ensures.good c.args.self.now.timed
