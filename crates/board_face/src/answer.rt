@@ -6,7 +6,7 @@ ghost use Rattle.board_face.specs.Layout.{no_room_number, answer_words_of, Answe
 use crate::words::{ANSWER_WORDS, Words};
 use units::{Refusal, number, place};
 
-// What is returned where one has fewer: the number of refusal 10.
+// What is returned where the lent answer has fewer words than the call answers: the number of refusal 10.
 pub fn no_room() -> u64
     ensures { result ≡ no_room_number }
 {

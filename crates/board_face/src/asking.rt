@@ -20,8 +20,8 @@ pub fn ask_of(
         source: NodeNo(source),
         destination: NodeNo(destination),
         time: Millis(time),
-        size: size,
+        size,
         deadline: Millis(deadline),
-        excluded: excluded,
+        excluded,
     }
 }

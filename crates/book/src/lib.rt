@@ -1,6 +1,5 @@
 // A book of volume on the contacts of a plan, in lent tables: 256 places, four words each in one flat
-// slice, and beside them 63 contact numbers each in another. No function but the accessors of
-// `places` knows where a word stands.
+// slice, and beside them 63 contact numbers each in another. `places` says which word of a place is which.
 
 #![tactic(auto)]
 

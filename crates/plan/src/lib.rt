@@ -1,6 +1,6 @@
 // A contact plan in lent tables. A table is one flat slice of words, five words a row: contacts are
 // start, end, from, to, rate, and ranges are start, end, a, b, light. A plan is the two slices and
-// their two counts. No function but the accessors of `rows` knows where a word stands.
+// their two counts, `PlanTables`. `Row` alone knows which word of a row is which.
 
 #![tactic(auto)]
 

@@ -1,6 +1,6 @@
 // Bytes into lent bytes, at a place; each function answers the place behind what it wrote.
-// The bytes and the place stay two parameters: in a struct, the bytes would be lent again at each call, and a clause would
-// have to name what comes back from it. That is no plainer.
+// The bytes and the place stay two parameters: in a struct, the bytes would be lent again at each call, and
+// a clause would have to name what comes back from it. That is no plainer.
 ghost use Rattle.std.specs.Prelude.{[], ◌∷◌, ◌+◌, ◌*◌, ◌≤◌, ◌<◌, length};
 ghost use Rattle.plan.specs.Tables.{words};
 ghost use Rattle.text.specs.Digits.{decimal};
