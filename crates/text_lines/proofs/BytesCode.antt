@@ -1,10 +1,14 @@
 -- What the functions over bytes know of the model.
 --     find_is                                   where the next mark stands, by how many bytes the library's `take_while` takes
+--     find_behind                               the same, of the part from a place on
+--     find_past                                 no byte is left from there on: the next mark stands there
 --     same_is, same_told, same_unlike           whether two runs of bytes are the same, by the library's `==` on slices
 --     number_blank, number_lone, number_is      whether bytes are a number, by the first of them
 --     value_is                                  the value of digits, by the library's `fold`
 -- Assumes nothing.
-use Rattle.std.proofs.Common.{◌≡◌, ℕ, suc, ◌+◌, ◌-◌, ◌*◌, Bool, true, false, not, cond, nat_eq, ◌&&◌, eqb, List, [], ◌∷◌, length, drop, refl, sym, ap, ◌∙◌, arith, Some, None, slice_get}
+use Rattle.std.proofs.Common.{◌≡◌, ℕ, suc, ◌+◌, ◌-◌, ◌*◌, ◌≤◌, Bool, true, false, not, cond, nat_eq, ◌&&◌, eqb, List, [], ◌∷◌, length, take, drop, refl, sym, ap, ◌∙◌, arith, Some, None, slice_get}
+use Rattle.std.proofs.Math.ListN.{drop_of_length-le, length-drop}
+use lib.Seq.{take_all}
 use Rattle.std.specs.List.{position_or_len, list_all, fold}
 use Rattle.std.specs.Char.{is_ascii_digit}
 use borrow.Author.Tests.{lt-ltb, ne_eqb}
@@ -27,6 +31,16 @@ up_to_is mark (b ∷ bs) =
 
 pub find_is : (s : List ℕ) (from mark n : ℕ) → n ≡ position_or_len (λ b. nat_eq b mark) (drop from s) → from + n ≡ from + up_to mark (drop from s)
 find_is s from mark n e = ap (λ (k : ℕ). from + k) (e ∙ up_to_is mark (drop from s))
+
+pub find_behind : (s : List ℕ) (from mark n : ℕ) → n ≡ position_or_len (λ b. nat_eq b mark) (take (length s - from) (drop from s))
+    → from + n ≡ from + up_to mark (drop from s)
+find_behind s from mark n e =
+    let whole : take (length s - from) (drop from s) ≡ drop from s = take_all (length s - from) (drop from s) (omega (arith, length-drop from s)) in
+    find_is s from mark n (e ∙ ap (position_or_len (λ b. nat_eq b mark)) whole)
+
+pub find_past : (s : List ℕ) (from mark : ℕ) → length s ≤ from → from ≡ from + up_to mark (drop from s)
+unfolding up_to
+find_past s from mark h = rw (drop_of_length-le s h) (omega arith)
 
 pub same_is : (xs ys : List ℕ) → pointwise nat_eq xs ys ≡ same xs ys
 unfolding same
