@@ -1,7 +1,11 @@
 -- What the code knows that judges a whole plan.
+--     has_few, has_lent    the rows that are counted are there
 --     good_spans           rows that are good have pairs and times that can be held against each other
+--     rows_lack            rows that are counted and not there: no table
 --     not_all_good         a row that is not good: no table
+--     table_is             the rows are there and good, and none overlaps a later one: a table
 --     table_tells          all rows are good: whether two overlap tells
+--     no_first, no_second  one of two tables that is none
 --     plan_tells           the two tables tell of the plan
 -- Assumes nothing.
 use mathlib.Core.Bool.{Bool, true, false}
@@ -19,15 +23,23 @@ use Rattle.plan.specs.Verdict.{Verdict, holds, fails}
 use Rattle.plan.proofs.EachRow.{each_row}
 use Rattle.plan.proofs.Lent.{length_contacts, length_ranges, contacts_counted, ranges_counted, spans_of_contacts, spans_of_ranges}
 use Rattle.plan.proofs.Tests.{each_tells, good_contact_tells, good_range_tells}
-use Rattle.plan.proofs.Verdicts.{restated, true_holds, holds_true}
+use Rattle.plan.proofs.Verdicts.{restated, true_holds, false_fails, holds_true}
 use Rattle.plan_lists.specs.Model.{most_rows}
-use Rattle.plan_valid.specs.Model.{Below, Starts, GoodSpans, Apart, IsTable}
-use Rattle.plan_valid.proofs.ApartCode.{apart_list, list_apart}
+use Rattle.plan_valid.specs.Model.{Below, Starts, GoodSpans, Apart, HasRows, IsTable}
+use Rattle.plan_valid.proofs.ApartCode.{first_fails, apart_list, list_apart}
 
 -- a test tells of its own answer
 answer_tells : (b : Bool) → Verdict (b ≡ true) b
 answer_tells true = holds refl
 answer_tells false = fails (λ e. cc)
+
+-- the rows are there, as a told it
+module _ {most : ℕ} {table : List ℕ} {n : ℕ} {a : Bool} (had : Verdict (HasRows most table n) a) (there : a ≡ true) where
+  pub has_few : n ≤ most
+  has_few = (true_holds had there).few
+
+  pub has_lent : n * words ≤ length table
+  has_lent = (true_holds had there).lent
 
 module _ {R : Type 0} (row_at : List ℕ → ℕ → R) (good : R → Bool) (table : List ℕ) (n : ℕ) where
   pub good_spans : (span_of : R → Span) (words_of : R → List ℕ) → RowLaws row_at span_of good words_of
@@ -46,15 +58,33 @@ module _ {R : Type 0} (row_at : List ℕ → ℕ → R) (good : R → Bool) (tab
         pairs = λ k h. record { one_node = (spans k h).one_node; other_node = (spans k h).other_node };
       }
 
-  -- b tells whether each row is good
-  module _ (most : ℕ) (b : Bool) (told : b ≡ each good (rows_from (row_at table) 0 n)) where
-    pub not_all_good : b ≡ false → Verdict (IsTable row_at good most table n) false
-    not_all_good e = fails (λ t. let rows = t.rows_good in cc)
+  module _ (most : ℕ) where
+    abbrev Table : Type 0
+    Table = IsTable row_at good most table n
 
-    pub table_tells : n ≤ most → n * words ≤ length table → b ≡ true → (c : Bool) → Verdict (Apart table n) c
-        → Verdict (IsTable row_at good most table n) c
-    table_tells few lent e c apart =
-        restated (λ a. record { few = few; lent = lent; rows_good = sym told ∙ e; apart = a }) (λ t. t.apart) apart
+    -- a tells whether the rows are there
+    module _ {a : Bool} (had : Verdict (HasRows most table n) a) where
+      pub rows_lack : a ≡ false → Verdict Table false
+      rows_lack e = fails (λ t. false_fails had e (record { few = t.few; lent = t.lent }))
+
+    -- b tells whether each row is good
+    module _ (b : Bool) (told : b ≡ each good (rows_from (row_at table) 0 n)) where
+      pub not_all_good : b ≡ false → Verdict Table false
+      not_all_good e = fails (λ t. let rows = t.rows_good in cc)
+
+      pub table_is : {a : Bool} → Verdict (HasRows most table n) a → a ≡ true → b ≡ true → Apart table n → Table
+      table_is had there e apart = record { few = has_few had there; lent = has_lent had there; rows_good = sym told ∙ e; apart = apart }
+
+      pub table_tells : n ≤ most → n * words ≤ length table → b ≡ true → (c : Bool) → Verdict (Apart table n) c → Verdict Table c
+      table_tells few lent e c apart =
+          restated (λ a. record { few = few; lent = lent; rows_good = sym told ∙ e; apart = a }) (λ t. t.apart) apart
+
+-- where one of two does not hold, they do not both
+pub no_first : {A B : Type 0} → Verdict A false → Verdict (A × B) false
+no_first told = first_fails told refl
+
+pub no_second : {A B : Type 0} → Verdict B false → Verdict (A × B) false
+no_second told = fails (λ both. false_fails told refl both.1)
 
 module _ (contacts : List ℕ) (m : ℕ) (ranges : List ℕ) (n : ℕ) where
   abbrev Contacts : Type 0

@@ -4,7 +4,8 @@
 --     Room                 there are words for the lists of the most rows
 --     Listed               a table has n rows, and each has a word for its next one
 --     ClearAfter, Apart    no later row overlaps a row; none of the rows overlaps a later one
---     IsTable              a table has the rows that it counts, no more than there may be, each is good, and none overlaps a later one
+--     HasRows              a table has the rows that it counts, no more than there may be
+--     IsTable              besides, each is good, and none overlaps a later one
 -- Assumes nothing.
 use Rattle.std.specs.Prelude.{Bool, true, List, ◌≡◌, ℕ, ◌*◌, ◌≤◌, ◌<◌, length}
 use Rattle.plan.specs.Model.{each}
@@ -39,6 +40,10 @@ ClearAfter table n i = (j : ℕ) → i < j → j < n → Overlap (span_at table 
 unfoldable pub Apart : List ℕ → ℕ → Type 0
 unfolding Below ClearAfter
 Apart table n = Below (ClearAfter table n) n
+
+pub record HasRows (most : ℕ) (table : List ℕ) (n : ℕ) : Type 0 where
+  pub few : n ≤ most
+  pub lent : n * words ≤ length table
 
 pub record IsTable {R : Type 0} (row_at : List ℕ → ℕ → R) (good : R → Bool) (most : ℕ) (table : List ℕ) (n : ℕ) : Type 0 where
   pub few : n ≤ most

@@ -6,7 +6,7 @@ ghost use Rattle.plan_lists.specs.Lists.{Nexts, slot_at};
 ghost use Rattle.plan_valid.specs.Model.{GoodSpans, Room, Listed, ClearAfter, Apart};
 
 use plan::{is_overlap, span_row};
-use plan_lists::{link, next_of};
+use plan_lists::{BLANK, MOST_ROWS, SLOTS, link, next_of};
 
 // Whether no later row overlaps row i: those of its slot are looked at, along their list.
 fn is_clear_after(table: &[u64], n: usize, nexts: &[u16], i: usize) -> bool
@@ -39,7 +39,7 @@ fn are_clear(table: &[u64], n: usize, nexts: &[u16]) -> bool
 }
 
 // Whether no two of the first n rows overlap. The lists are made in the lent words.
-pub fn are_apart(table: &[u64], n: usize, heads: &mut [u16], nexts: &mut [u16]) -> bool
+fn are_apart(table: &[u64], n: usize, heads: &mut [u16], nexts: &mut [u16]) -> bool
     requires { GoodSpans table.now n × Room heads.old nexts.old }
     ensures { Verdict (Apart table.now n) result }
 {
@@ -47,4 +47,22 @@ pub fn are_apart(table: &[u64], n: usize, heads: &mut [u16], nexts: &mut [u16]) 
         return true;
     }
     are_clear(table, n, nexts)
+}
+
+// Whether no two contacts overlap, and no two ranges: in the same words, one table after the other.
+pub fn are_both_apart(
+    contacts: &[u64],
+    contact_count: usize,
+    ranges: &[u64],
+    range_count: usize,
+) -> bool
+    requires { GoodSpans contacts.now contact_count × GoodSpans ranges.now range_count }
+    ensures { Verdict (Apart contacts.now contact_count × Apart ranges.now range_count) result }
+{
+    let mut heads = [BLANK; SLOTS];
+    let mut nexts = [BLANK; MOST_ROWS];
+    if !are_apart(contacts, contact_count, &mut heads, &mut nexts) {
+        return false;
+    }
+    are_apart(ranges, range_count, &mut heads, &mut nexts)
 }
