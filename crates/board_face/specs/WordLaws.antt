@@ -1,4 +1,4 @@
--- What each kind of success must prove of its words.
+-- What each kind of success must prove of its words. A reader of the promises may skip it.
 -- Assumes nothing.
 use Rattle.std.specs.Prelude.{List, ◌≡◌, ℕ, ◌+◌, ◌≤◌, length}
 

@@ -9,4 +9,4 @@ mod words;
 
 pub use answer::{answer_call, no_room, put_answer};
 pub use asking::ask_of;
-pub use words::Words;
+pub use words::{ANSWER_WORDS, BOOKED_WORDS, Words};

@@ -1,6 +1,6 @@
 -- What the code that judges lent tables knows of a good book.
 --     booking_tells                               the tests of a booking
---     free_good, open_tells, long_fails, closed_fails   a place by its mark
+--     open_tells, long_fails, closed_fails        a place by its mark; a free one is good by `free_place`
 --     book_stops, book_whole                      the places, one by one
 -- Assumes nothing.
 use mathlib.Core.Bool.{Bool, false, ◌&&◌}

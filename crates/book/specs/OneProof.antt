@@ -1,4 +1,4 @@
--- That tables are a good book can be shown in one way only, so that a type may hold it as a ghost field.
+-- That tables are a good book can be shown in one way only, so that a type may hold it as a ghost field. A reader of the promises may skip it.
 --     IsBook-prop      any two proofs of it are equal
 -- Assumes nothing.
 use mathlib.Core.List.{List}

@@ -28,74 +28,66 @@ use Rattle.search.specs.Route as Routing
 use Rattle.search.proofs.Theorems.{routes_plan_determined}
 use Rattle.calls.specs.Booked.{with_book, GoodClass, Good}
 use Rattle.calls.specs.Calls.{WalksBooked, stopped, walked, RoutesBooked, short_chain, not_routed, routed}
-use Rattle.calls.specs.Checks.{Holds, Checked, no_plan, no_book, bad_ask, bad_class, same_node, all_good}
+use Rattle.calls.specs.Checks.{Holds, Checked, no_plan, no_book, bad_ask, bad_class, same_node, all_good, SaidCall, call_said, said}
 use Rattle.calls.specs.declared.call.CheckedCall.{CheckedCall}
 
--- the checked call d is that of the tables, the ask and the class of c
-abbrev pub SameCall : CheckedCall → CheckedCall → Type 0
-SameCall c d =
-    Holds c.plan.tables.contacts.now c.plan.tables.contact_count c.plan.tables.ranges.now c.plan.tables.range_count c.book.places.now c.book.chains.now
-    c.ask.asked c.class d
-
--- two answers of the checks that say the same: one refusal, or one call
-pub data SameAnswer : Result CheckedCall Refusal → Result CheckedCall Refusal → Type 0 where
-  one_refusal : {why : Refusal} → SameAnswer (Err why) (Err why)
-  one_call : {c d : CheckedCall} → SameCall c d → SameAnswer (Ok c) (Ok d)
-
-same_refusal : {x y : Refusal} → SameAnswer (Err x) (Err y) → x ≡ y
-same_refusal one_refusal = refl
+-- a refusal is said as it is
+same_refusal : {x y : Refusal} → said (Err x) ≡ said (Err y) → x ≡ y
+same_refusal e = cc
 
 module _ {contacts : List ℕ} {m : ℕ} {ranges : List ℕ} {n : ℕ} {book chains : List ℕ} {ask : Ask} {class : ℕ} where
-  same_call : {c d : CheckedCall} → Holds contacts m ranges n book chains ask class c → Holds contacts m ranges n book chains ask class d → SameCall c d
-  same_call h k = record {
-    contacts_same = k.contacts_same ∙ sym h.contacts_same;
-    contact_count_same = k.contact_count_same ∙ sym h.contact_count_same;
-    ranges_same = k.ranges_same ∙ sym h.ranges_same;
-    range_count_same = k.range_count_same ∙ sym h.range_count_same;
-    places_same = k.places_same ∙ sym h.places_same;
-    chains_same = k.chains_same ∙ sym h.chains_same;
-    ask_same = k.ask_same ∙ sym h.ask_same;
-    class_same = k.class_same ∙ sym h.class_same;
-  }
+  same_call : {c d : CheckedCall} → Holds contacts m ranges n book chains ask class c → Holds contacts m ranges n book chains ask class d
+      → call_said c ≡ call_said d
+  same_call h k =
+      λ i. record {
+        contacts = (h.contacts_same ∙ sym k.contacts_same) i;
+        contact_count = (h.contact_count_same ∙ sym k.contact_count_same) i;
+        ranges = (h.ranges_same ∙ sym k.ranges_same) i;
+        range_count = (h.range_count_same ∙ sym k.range_count_same) i;
+        places = (h.places_same ∙ sym k.places_same) i;
+        chains = (h.chains_same ∙ sym k.chains_same) i;
+        ask = (h.ask_same ∙ sym k.ask_same) i;
+        class = (h.class_same ∙ sym k.class_same) i;
+      }
 
   pub checked_determined : {a b : Result CheckedCall Refusal} → Checked contacts m ranges n book chains ask class a
-      → Checked contacts m ranges n book chains ask class b → SameAnswer a b
-  checked_determined (no_plan f) (no_plan f') = one_refusal
+      → Checked contacts m ranges n book chains ask class b → said a ≡ said b
+  checked_determined (no_plan f) (no_plan f') = refl
   checked_determined (no_plan f) (no_book p' f') = absurd (f p')
   checked_determined (no_plan f) (bad_ask p' b' f') = absurd (f p')
   checked_determined (no_plan f) (bad_class p' b' a' f') = absurd (f p')
   checked_determined (no_plan f) (same_node p' b' a' c' e') = absurd (f p')
   checked_determined (no_plan f) (all_good g' h') = absurd (f g'.plan)
   checked_determined (no_book p f) (no_plan f') = absurd (f' p)
-  checked_determined (no_book p f) (no_book p' f') = one_refusal
+  checked_determined (no_book p f) (no_book p' f') = refl
   checked_determined (no_book p f) (bad_ask p' b' f') = absurd (f b')
   checked_determined (no_book p f) (bad_class p' b' a' f') = absurd (f b')
   checked_determined (no_book p f) (same_node p' b' a' c' e') = absurd (f b')
   checked_determined (no_book p f) (all_good g' h') = absurd (f g'.its_book)
   checked_determined (bad_ask p b f) (no_plan f') = absurd (f' p)
   checked_determined (bad_ask p b f) (no_book p' f') = absurd (f' b)
-  checked_determined (bad_ask p b f) (bad_ask p' b' f') = one_refusal
+  checked_determined (bad_ask p b f) (bad_ask p' b' f') = refl
   checked_determined (bad_ask p b f) (bad_class p' b' a' f') = absurd (f a')
   checked_determined (bad_ask p b f) (same_node p' b' a' c' e') = absurd (f a')
   checked_determined (bad_ask p b f) (all_good g' h') = absurd (f g'.ask_is_good)
   checked_determined (bad_class p b a f) (no_plan f') = absurd (f' p)
   checked_determined (bad_class p b a f) (no_book p' f') = absurd (f' b)
   checked_determined (bad_class p b a f) (bad_ask p' b' f') = absurd (f' a)
-  checked_determined (bad_class p b a f) (bad_class p' b' a' f') = one_refusal
+  checked_determined (bad_class p b a f) (bad_class p' b' a' f') = refl
   checked_determined (bad_class p b a f) (same_node p' b' a' c' e') = absurd (f c')
   checked_determined (bad_class p b a f) (all_good g' h') = absurd (f g'.good_class)
   checked_determined (same_node p b a c e) (no_plan f') = absurd (f' p)
   checked_determined (same_node p b a c e) (no_book p' f') = absurd (f' b)
   checked_determined (same_node p b a c e) (bad_ask p' b' f') = absurd (f' a)
   checked_determined (same_node p b a c e) (bad_class p' b' a' f') = absurd (f' c)
-  checked_determined (same_node p b a c e) (same_node p' b' a' c' e') = one_refusal
+  checked_determined (same_node p b a c e) (same_node p' b' a' c' e') = refl
   checked_determined (same_node p b a c e) (all_good g' h') = absurd (g'.differ e)
   checked_determined (all_good g h) (no_plan f') = absurd (f' g.plan)
   checked_determined (all_good g h) (no_book p' f') = absurd (f' g.its_book)
   checked_determined (all_good g h) (bad_ask p' b' f') = absurd (f' g.ask_is_good)
   checked_determined (all_good g h) (bad_class p' b' a' f') = absurd (f' g.good_class)
   checked_determined (all_good g h) (same_node p' b' a' c' e') = absurd (g.differ e')
-  checked_determined (all_good g h) (all_good g' h') = one_call (same_call h h')
+  checked_determined (all_good g h) (all_good g' h') = ap (λ (call : SaidCall). Ok call) (same_call h h')
 
   pub checked_good : {call : CheckedCall} → Checked contacts m ranges n book chains ask class (Ok call) → Good contacts m ranges n book chains ask class
   checked_good (all_good g h) = g

@@ -22,7 +22,8 @@ use Rattle.search.specs.Model.{route_model, route_after}
 use Rattle.search.specs.Route.{RoutesPlan}
 use Rattle.search.proofs.Theorems.{route_model_routes}
 use Rattle.calls.specs.Booked.{with_book, Good}
-use Rattle.calls.specs.Checks.{Holds, service_for}
+use Rattle.calls.specs.Checks.{Holds}
+use Rattle.calls.specs.Model.{service_for}
 use Rattle.calls.specs.declared.call.CheckedCall.{CheckedCall}
 
 module _ {contacts : List ℕ} {m : ℕ} {ranges : List ℕ} {n : ℕ} {book chains : List ℕ} {ask : Ask} {class : ℕ} {call : CheckedCall}

@@ -1,3 +1,4 @@
 pub mod Booked
 pub mod Calls
 pub mod Checks
+pub mod Model

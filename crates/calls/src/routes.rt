@@ -3,7 +3,7 @@ ghost use Rattle.std.specs.Prelude.{◌≡◌, ◌≤◌, length};
 ghost use Rattle.units.specs.Limits.{most_chain};
 ghost use Rattle.search.specs.Model.{route_model, route_after};
 ghost use Rattle.calls.specs.Calls.{RoutesBooked};
-ghost use Rattle.calls.specs.Checks.{service_for};
+ghost use Rattle.calls.specs.Model.{service_for};
 
 use crate::call::CheckedCall;
 use crate::checking::checks;

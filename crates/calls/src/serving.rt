@@ -1,7 +1,7 @@
 // The plan with its book made ready to serve a class.
 ghost use Rattle.std.specs.Prelude.{◌≡◌};
 ghost use Rattle.service.specs.Held.{service_in};
-ghost use Rattle.calls.specs.Checks.{service_for};
+ghost use Rattle.calls.specs.Model.{service_for};
 
 use crate::call::CheckedCall;
 use service::{ServedPlan, serve};

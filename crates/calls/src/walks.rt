@@ -2,7 +2,7 @@
 ghost use Rattle.std.specs.Prelude.{◌≡◌};
 ghost use Rattle.walk.specs.Model.{walk_model};
 ghost use Rattle.calls.specs.Calls.{WalksBooked};
-ghost use Rattle.calls.specs.Checks.{service_for};
+ghost use Rattle.calls.specs.Model.{service_for};
 
 use crate::call::CheckedCall;
 use crate::checking::checks;

@@ -32,7 +32,8 @@ use Rattle.search.specs.Model.{route_model, route_after}
 use Rattle.search.specs.Route.{RoutesPlan, no_chain, too_late}
 use Rattle.calls.specs.Booked.{with_book, Good}
 use Rattle.calls.specs.Calls.{RoutesBooked, routed}
-use Rattle.calls.specs.Checks.{Holds, service_for}
+use Rattle.calls.specs.Checks.{Holds}
+use Rattle.calls.specs.Model.{service_for}
 use Rattle.calls.specs.declared.call.CheckedCall.{CheckedCall}
 use Rattle.calls.proofs.CallCode.{call_routed, call_good, call_holds}
 use Rattle.calls_book.specs.Model.{RefusedFor, Bookable}

@@ -1,4 +1,4 @@
--- What contacts and ranges have in common, as rows of a table: what each type of row must prove of its members.
+-- What contacts and ranges have in common, as rows of a table: what each type of row must prove of its members. A reader of the promises may skip it.
 --     IsGoodSpan      a pair of nodes, and a time that starts before it ends
 --     HasWords        a row of a table has those five words
 --     RowLaws         the span of the row at a place is the span there; a good row has a good span; five words make the row

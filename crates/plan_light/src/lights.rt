@@ -147,7 +147,7 @@ fn begin_at(lists: &RangeLists, kept: &[u16], head: usize, time: Millis) -> usiz
 // else that first row.
 fn open_row(lists: &RangeLists, kept: &mut [u16], head: usize, time: Millis) -> usize
     requires { Kept lists.now.ranges.now lists.now.range_count kept.old × (head < lists.now.range_count) × LeastFrom (slot_at lists.now.ranges.now) 0 lists.now.range_count (slot_at lists.now.ranges.now head) head }
-    ensures { Passed lists.now.ranges.now lists.now.range_count (slot_at lists.now.ranges.now head) time.0 result × Kept lists.now.ranges.now lists.now.range_count kept.new }
+    ensures { Passed lists.now.ranges.now lists.now.range_count (slot_at lists.now.ranges.now head) time.0 result × Kept lists.now.ranges.now lists.now.range_count kept.new × (length kept.new ≡ length kept.old) }
 {
     if !lists.ordered {
         return head;
@@ -165,7 +165,7 @@ fn open_row(lists: &RangeLists, kept: &mut [u16], head: usize, time: Millis) -> 
 // or else by a walk along the list.
 pub fn light_kept(lists: &RangeLists, kept: &mut [u16], c: Contact) -> Option<Millis>
     requires { GoodContact c × Kept lists.now.ranges.now lists.now.range_count kept.old }
-    ensures { (result ≡ light_of (rows_from (range_at lists.now.ranges.now) 0 lists.now.range_count) c) × Kept lists.now.ranges.now lists.now.range_count kept.new }
+    ensures { (result ≡ light_of (rows_from (range_at lists.now.ranges.now) 0 lists.now.range_count) c) × Kept lists.now.ranges.now lists.now.range_count kept.new × (length kept.new ≡ length kept.old) }
 {
     let pair = pair_of(c);
     let head = head_of(lists.heads, pair);

@@ -1,4 +1,4 @@
--- The service that a served plan holds.
+-- The service that a served plan holds. A reader of the promises may skip it.
 -- Assumes nothing.
 use Rattle.service.specs.declared.tables.ServedPlan.{ServedPlan}
 use Rattle.service.specs.Service.{Service}

@@ -7,4 +7,6 @@ mod serving;
 mod tables;
 
 pub use serving::serve;
-pub use tables::{BLANK_LEFT, BLANK_LIGHT, Pass, ServedPlan, left_numbered, light_numbered};
+pub use tables::{
+    BLANK_LEFT, BLANK_LIGHT, Pass, ServedPlan, UNRANGED, left_numbered, light_numbered,
+};

@@ -51,7 +51,7 @@ fn serve_in(
     lefts: &mut [u64],
 )
     requires { (length heads.old ≡ slots) × (most_rows ≤ length nexts.old) × NoneKept kept.old × (plan.now.tables.contact_count ≤ length lights.old) × (plan.now.tables.contact_count ≤ length lefts.old) }
-    ensures { served plan.now.tables.contacts.now plan.now.tables.contact_count lights.new lefts.new ≡ service_of (plan_in plan.now.tables) unused }
+    ensures { (served plan.now.tables.contacts.now plan.now.tables.contact_count lights.new lefts.new ≡ service_of (plan_in plan.now.tables) unused) × (length lights.new ≡ length lights.old) × (length lefts.new ≡ length lefts.old) }
 {
     let ordered = link(plan.tables.ranges, plan.tables.range_count, heads, nexts);
     let lists = RangeLists {
@@ -73,7 +73,7 @@ fn serve_in(
 // their own, and so has what is kept along them: nothing yet.
 pub fn serve(plan: &CheckedPlan, lights: &mut [u32], lefts: &mut [u64])
     requires { (plan.now.tables.contact_count ≤ length lights.old) × (plan.now.tables.contact_count ≤ length lefts.old) }
-    ensures { served plan.now.tables.contacts.now plan.now.tables.contact_count lights.new lefts.new ≡ service_of (plan_in plan.now.tables) unused }
+    ensures { (served plan.now.tables.contacts.now plan.now.tables.contact_count lights.new lefts.new ≡ service_of (plan_in plan.now.tables) unused) × (length lights.new ≡ length lights.old) × (length lefts.new ≡ length lefts.old) }
 {
     let mut heads = [BLANK; SLOTS];
     let mut nexts = [BLANK; MOST_ROWS];

@@ -29,7 +29,7 @@ invariant_of-result c =
     let few = contacts_counted _ _ _ _ call.plan.valid in
     record {
       sound = is_service _ _ _ _ _ _ _ call.plan.valid (omega (arith, few, c.serve.auto.lights, c.fits-lights)) (omega (arith, few, c.spend.ensures.same_length, c.serve.auto.lefts, c.fits-lefts))
-          (spent_serves _ _ _ _ _ _ (used (book_of call.book.places.now call.book.chains.now) call.class) c.serve.ensures
+          (spent_serves _ _ _ _ _ _ (used (book_of call.book.places.now call.book.chains.now) call.class) c.serve.ensures.0
           (λ k h. c.spend.ensures.lefts k (omega (arith, h, few, c.serve.auto.lefts, c.fits-lefts))));
     }
 
@@ -38,4 +38,4 @@ unfolding service_in most_contacts
 returns c =
     let call = c.args.call.now in
     let few = contacts_counted _ _ _ _ call.plan.valid in
-    spent_serves _ _ _ _ _ _ (used (book_of call.book.places.now call.book.chains.now) call.class) c.serve.ensures (λ k h. c.spend.ensures.lefts k (omega (arith, h, few, c.serve.auto.lefts, c.fits-lefts)))
+    spent_serves _ _ _ _ _ _ (used (book_of call.book.places.now call.book.chains.now) call.class) c.serve.ensures.0 (λ k h. c.spend.ensures.lefts k (omega (arith, h, few, c.serve.auto.lefts, c.fits-lefts)))

@@ -10,12 +10,12 @@ use Rattle.plan_light.proofs.lights.open_row.Goals as goal
 pub returns-then-not-lists : goal.returns-then-not-lists
 returns-then-not-lists c =
     let pre = c.requires in
-    (passed_first _ _ _ _ _ pre.2, pre.0)
+    (passed_first _ _ _ _ _ pre.2, pre.0, refl)
 
 pub returns-then-lt : goal.returns-then-lt
 returns-then-lt c =
     let pre = c.requires in
-    (passed_first _ _ _ _ _ pre.2, pre.0)
+    (passed_first _ _ _ _ _ pre.2, pre.0, refl)
 
 pub begin_at-begin-requires : goal.begin_at-begin-requires
 begin_at-begin-requires c =
@@ -31,4 +31,4 @@ returns c =
     let pre = c.requires in
     let lists = c.args.lists.now in
     let past = past_again _ _ _ _ _ _ c.begin_at-begin.ensures c.pass_over-past.ensures in
-    (passed_behind _ _ _ lists.listed.rows (lists.in_order c.if-not-lists.false) _ _ _ past _ c.next_of.ensures, kept_more _ _ _ pre.0 _ _ pre.1 past.has)
+    (passed_behind _ _ _ lists.listed.rows (lists.in_order c.if-not-lists.false) _ _ _ past _ c.next_of.ensures, kept_more _ _ _ pre.0 _ _ pre.1 past.has, search rules)

@@ -57,4 +57,5 @@ loop-k-preserved c =
     (beside_more _ _ _ _ _ _ _ lights_room lefts_room _ _ c.read-c.ensures told.0 c.word_of.ensures c.volume_of.ensures inv.0, told.1)
 
 pub returns : goal.returns
-returns c = beside_all _ _ _ _ _ _ (λ j h. c.loop-k.invariant.0 j (omega (arith, c.loop-k-test.false)))
+returns c =
+    (beside_all _ _ _ _ _ _ (λ j h. c.loop-k.invariant.0 j (omega (arith, c.loop-k-test.false))), c.loop-k.auto.lights, c.loop-k.auto.lefts)

@@ -8,8 +8,8 @@ use Rattle.service.proofs.tables.ServedPlan.unbooked.Goals as goal
 pub invariant_of-result : goal.invariant_of-result
 invariant_of-result c =
     let pre = c.requires in
-    record { sound = is_service _ _ _ _ _ _ _ c.args.plan.now.valid (omega (arith, pre.0, c.serve.auto.lights)) (omega (arith, pre.1, c.serve.auto.lefts)) c.serve.ensures }
+    record { sound = is_service _ _ _ _ _ _ _ c.args.plan.now.valid (omega (arith, pre.0, c.serve.auto.lights)) (omega (arith, pre.1, c.serve.auto.lefts)) c.serve.ensures.0 }
 
 pub returns : goal.returns
 unfolding service_in
-returns c = c.serve.ensures
+returns c = c.serve.ensures.0
