@@ -14,7 +14,7 @@ use Rattle.text.specs.Calls.{text_of}
 use Rattle.text.specs.Digits.{decimal}
 use Rattle.text.specs.Lines.{glue}
 use Rattle.text.specs.Rows.{header, contact_word, range_word, line_of, contact_line, range_line, plan_lines, render}
-use Rattle.text.proofs.Digits.{decimal_large, decimal_small, decimal_number, decimal_short}
+use Rattle.text.proofs.Digits.{decimal_large, decimal_small}
 use Rattle.text.proofs.Lines.{glue_append}
 use Rattle.plan.proofs.RowList.{length_rows, map_rows, rows_agree}
 use Rattle.text_write.specs.Model.{words_from, field_bytes, line_at, line_bytes, row_bytes}

@@ -163,6 +163,20 @@ module _ (out : List ℕ) (at n : ℕ) where
 
 -- ---- the loops
 
+module _ (before : List ℕ) (at : ℕ) (all bs out : List ℕ) (p i : ℕ) where
+  byte_first : i < length bs → Onward before at all out p (drop i bs) → Onward before at all out p ((get_or bs i 0 ∷ []) ++ drop (i + 1) bs)
+  byte_first h o = onward_as (drop i bs) ((get_or bs i 0 ∷ []) ++ drop (i + 1) bs) (bytes_left bs i h) o
+
+  pub byte_room : i < length bs → Onward before at all out p (drop i bs) → p < length out
+  byte_room h o = let room = onward_room (get_or bs i 0 ∷ []) (drop (i + 1) bs) (byte_first h o) in omega (arith, room)
+
+  pub byte_goes : i < length bs → Onward before at all out p (drop i bs) → (mid : List ℕ) (q : ℕ) → length mid ≡ length out
+      → Wrote out p (get_or bs i 0 ∷ []) mid q → Onward before at all mid q (drop (i + 1) bs)
+  byte_goes h o mid q l w = onward_step (get_or bs i 0 ∷ []) (drop (i + 1) bs) mid q (byte_first h o) l w
+
+  pub bytes_end : length bs ≤ i → Onward before at all out p (drop i bs) → Wrote before at all out p
+  bytes_end h o = onward_end (onward_as (drop i bs) [] (drop_of_length-le bs h) o)
+
 module _ (before : List ℕ) (at : ℕ) (all xs out : List ℕ) (p i : ℕ) where
   field_first : i < length xs → Onward before at all out p (field_bytes (drop i xs))
       → Onward before at all out p ((tab ∷ decimal (get_or xs i 0)) ++ field_bytes (drop (i + 1) xs))

@@ -21,13 +21,16 @@ pub fn put_byte(out: &mut [u8], at: usize, b: u8) -> usize
     at + 1
 }
 
+// Byte by byte: the library's copy of a slice would need memmove of a board that links the archive.
 pub fn put_bytes(out: &mut [u8], at: usize, bytes: &[u8]) -> usize
     requires { at + length bytes.now ≤ length out.old }
     ensures { Wrote out.old at bytes.now out.new result }
 {
-    let end = at + bytes.len();
-    out[at..end].copy_from_slice(bytes);
-    end
+    let mut next = at;
+    for b in bytes {
+        next = put_byte(out, next, *b);
+    }
+    next
 }
 
 // The decimal digits of the number.
