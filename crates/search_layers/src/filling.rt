@@ -20,6 +20,7 @@ use units::CheckedAsk;
 // whether it is known to be the same.
 fn next_row(net: &ContactNetwork, layers: &mut Layers, old: usize, k: usize) -> bool
     requires { (k + 1 < most_nodes) × Older (network_in net.now) layers.old old k }
+    ensures same_reference { layers.new.words.ghost_name ≡ layers.old.words.ghost_name }
     ensures row { Layered layers.old layers.new k (relaxed (network_in net.now) (layer_of layers.old.words.now k) (network_in net.now).contacts) }
     ensures same { result ≡ true → layer_of layers.new.words.now (k + 1) ≡ layer_of layers.new.words.now k }
 {
@@ -32,7 +33,8 @@ fn next_row(net: &ContactNetwork, layers: &mut Layers, old: usize, k: usize) -> 
 #[tactic(auto, unfolding(units::specs::Limits::most_nodes))]
 fn fill_rows(net: &ContactNetwork, layers: &mut Layers) -> usize
     requires { layers.old.words.now ≡ blank_words }
-    ensures { Filled (network_in net.now) layers.new result }
+    ensures same_reference { layers.new.words.ghost_name ≡ layers.old.words.ghost_name }
+    ensures filled { Filled (network_in net.now) layers.new result }
 {
     layers.put(0, net.ask.asked.source, net.ask.asked.time);
     let mut old = NODES - 1;
@@ -48,7 +50,8 @@ fn fill_rows(net: &ContactNetwork, layers: &mut Layers) -> usize
 // The same over a plan as it serves the ask, with its contacts put into lists.
 pub fn fill(service: &ServedPlan, ask: CheckedAsk, layers: &mut Layers) -> usize
     requires { layers.old.words.now ≡ blank_words }
-    ensures { Filled (network_of (service_in service.now) ask.asked) layers.new result }
+    ensures same_reference { layers.new.words.ghost_name ≡ layers.old.words.ghost_name }
+    ensures filled { Filled (network_of (service_in service.now) ask.asked) layers.new result }
 {
     let mut heads = [BLANK; NODES];
     let mut nexts = [BLANK; MOST_ROWS];

@@ -84,7 +84,8 @@ impl<'a> Layers<'a> {
     #[tactic(auto, unfolding(units::specs::Limits::most_nodes))]
     pub(crate) fn put(&mut self, k: usize, node: NodeNo, time: Millis)
         requires { (k < most_nodes) × IsNode node × (time.0 ≤ last_time + most_light) }
-        ensures { self.new.words.now ≡ set self.old.words.now (k * most_nodes + (node.0 - 1)) time.0 }
+        ensures same_reference { self.new.words.ghost_name ≡ self.old.words.ghost_name }
+        ensures stored { self.new.words.now ≡ set self.old.words.now (k * most_nodes + (node.0 - 1)) time.0 }
     {
         let at = place(k, node);
         self.words[at] = time.0;
@@ -94,7 +95,8 @@ impl<'a> Layers<'a> {
     #[tactic(auto, unfolding(units::specs::Limits::most_nodes))]
     pub(crate) fn copy_row(&mut self, k: usize)
         requires { k + 1 < most_nodes }
-        ensures { Layered self.old self.new k (layer_of self.old.words.now k) }
+        ensures same_reference { self.new.words.ghost_name ≡ self.old.words.ghost_name }
+        ensures copied { Layered self.old self.new k (layer_of self.old.words.now k) }
     {
         let next = (k + 1) * NODES;
         let words = &mut *self.words;

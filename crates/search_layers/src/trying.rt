@@ -59,7 +59,8 @@ fn is_late(pass: Contact, ready: Millis, there: u64) -> bool
 // the file is at the node that it is from, as row k has it.
 fn try_contact(net: &ContactNetwork, layers: &mut Layers, k: usize, no: ContactNo, ready: Millis)
     requires { (k + 1 < most_nodes) × InPlan (service_in net.now.service) no.0 × (ready.0 ≡ get_or (row_of layers.old.words.now k) ((network_in net.now).from no.0) 0) × (ready.0 ≤ last_time + most_light) }
-    ensures { Layered layers.old layers.new k (relax (network_in net.now) (layer_of layers.old.words.now k) no.0 (layer_of layers.old.words.now (k + 1))) }
+    ensures same_reference { layers.new.words.ghost_name ≡ layers.old.words.ghost_name }
+    ensures row { Layered layers.old layers.new k (relax (network_in net.now) (layer_of layers.old.words.now k) no.0 (layer_of layers.old.words.now (k + 1))) }
 {
     let pass = net.service.contact(no);
     let there = layers.word(k + 1, pass.to);
@@ -76,7 +77,8 @@ fn try_contact(net: &ContactNetwork, layers: &mut Layers, k: usize, no: ContactN
 // The contacts from the node tried, along their list: none where the file is never at the node.
 fn try_from(net: &ContactNetwork, layers: &mut Layers, k: usize, node: NodeNo)
     requires { (k + 1 < most_nodes) × IsNode node }
-    ensures { Tried (network_in net.now) layers.old layers.new k (λ c. (network_in net.now).from c ≡ node.0 - 1) }
+    ensures same_reference { layers.new.words.ghost_name ≡ layers.old.words.ghost_name }
+    ensures tried { Tried (network_in net.now) layers.old layers.new k (λ c. (network_in net.now).from c ≡ node.0 - 1) }
 {
     let Some(ready) = layers.get(k, node) else {
         return;
@@ -102,6 +104,7 @@ fn try_changed(
     requires inside { (k + 1 < most_nodes) × IsNode node }
     requires older { Older (network_in net.now) layers.old old k }
     requires lower { (u : ℕ) → NotLater (get_or (layer_of layers.old.words.now (k + 1)) u never) (get_or (layer_of layers.old.words.now k) u never) }
+    ensures same_reference { layers.new.words.ghost_name ≡ layers.old.words.ghost_name }
     ensures tried { Tried (network_in net.now) layers.old layers.new k (λ c. (network_in net.now).from c ≡ node.0 - 1) }
     ensures same { result ≡ false → layers.new.words.now ≡ layers.old.words.now }
 {
@@ -119,6 +122,7 @@ pub fn try_all(net: &ContactNetwork, layers: &mut Layers, old: usize, k: usize) 
     requires inside { k + 1 < most_nodes }
     requires older { Older (network_in net.now) layers.old old k }
     requires copied { layer_of layers.old.words.now (k + 1) ≡ layer_of layers.old.words.now k }
+    ensures same_reference { layers.new.words.ghost_name ≡ layers.old.words.ghost_name }
     ensures row { Layered layers.old layers.new k (relaxed (network_in net.now) (layer_of layers.old.words.now k) (network_in net.now).contacts) }
     ensures same { result ≡ true → layers.new.words.now ≡ layers.old.words.now }
 {

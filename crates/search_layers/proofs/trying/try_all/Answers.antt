@@ -1,5 +1,5 @@
 -- `search_layers::trying::try_all` meets its contract. The loop's invariant: the contacts from the nodes before `v` are tried, and if the words of none of them differed
--- the rows are as they were.
+-- the rows are as they were; the words are still the lent ones.
 -- Assumes nothing.
 use mathlib.Core.Path.{refl, sym, ◌∙◌, subst}
 use native.Mathlib.Omega.{arith}
@@ -11,7 +11,7 @@ use Rattle.search_layers.proofs.trying.try_all.Goals as goal
 use Rattle.search_layers.proofs.trying.try_all.Goals.{then-try_changed, else-try_changed}
 
 pub loop-v-init : goal.loop-v-init
-loop-v-init c = (tried_none _ _ _ (λ c' here none. omega arith), λ e. refl)
+loop-v-init c = (tried_none _ _ _ (λ c' here none. omega arith), λ e. refl, refl)
 
 pub try_changed-requires-clause-older : goal.try_changed-requires-clause-older
 try_changed-requires-clause-older c = older_kept _ _ _ _ _ c.loop-v.invariant.0.kept c.requires.older
@@ -28,6 +28,7 @@ loop-v-preserved c =
         | then-try_changed w ↦ λ e. absurd (subst T (sym e ∙ w.same-is) tt)
         | else-try_changed w ↦ λ e. told.same w.if-try_changed.false ∙ inv.1 (sym w.same-is ∙ e)
       ],
+      told.same_reference ∙ inv.2,
     )
 
 pub returns-clause-row : goal.returns-clause-row

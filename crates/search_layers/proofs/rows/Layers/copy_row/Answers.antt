@@ -15,9 +15,9 @@ invariant_of-self c =
       timed = copied_timed _ _ _ c.requires layers.full told.len by.0 by.1 by.2 layers.timed;
     }
 
-pub returns : goal.returns
+pub returns-clause-copied : goal.returns-clause-copied
 unfolding most_nodes
-returns c =
+returns-clause-copied c =
     let told = c.copy_within.ensures in
     let by = told.by_index in
     let full = c.args.self.now.full in

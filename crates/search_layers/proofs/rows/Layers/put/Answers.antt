@@ -12,5 +12,5 @@ invariant_of-self c = record {
   timed = time_set _ _ _ c.args.self.now.timed (inl c.requires.2);
 }
 
-pub returns : goal.returns
-returns c = ap (λ i. set c.args.self.now.words.now i c.args.time.0) c.place-at.ensures.0
+pub returns-clause-stored : goal.returns-clause-stored
+returns-clause-stored c = ap (λ i. set c.args.self.now.words.now i c.args.time.0) c.place-at.ensures.0
