@@ -4,7 +4,6 @@
 --     rows_lack            rows that are counted and not there: no table
 --     not_all_good         a row that is not good: no table
 --     table_is             the rows are there and good, and none overlaps a later one: a table
---     table_tells          all rows are good: whether two overlap tells
 --     no_first, no_second  one of two tables that is none
 --     plan_tells           the two tables tell of the plan
 -- Assumes nothing.
@@ -74,10 +73,6 @@ module _ {R : Type 0} (row_at : List ℕ → ℕ → R) (good : R → Bool) (tab
 
       pub table_is : {a : Bool} → Verdict (HasRows most table n) a → a ≡ true → b ≡ true → Apart table n → Table
       table_is had there e apart = record { few = has_few had there; lent = has_lent had there; rows_good = sym told ∙ e; apart = apart }
-
-      pub table_tells : n ≤ most → n * words ≤ length table → b ≡ true → (c : Bool) → Verdict (Apart table n) c → Verdict Table c
-      table_tells few lent e c apart =
-          restated (λ a. record { few = few; lent = lent; rows_good = sym told ∙ e; apart = a }) (λ t. t.apart) apart
 
 -- where one of two does not hold, they do not both
 pub no_first : {A B : Type 0} → Verdict A false → Verdict (A × B) false
