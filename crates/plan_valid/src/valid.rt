@@ -23,7 +23,9 @@ fn has_rows<R: Row>(table: &[u64], n: usize) -> bool
     true
 }
 
-// Whether the tables have the rows that they count, and these are a valid plan.
+// Whether the tables have the rows that they count, and these are a valid plan. A function of its own: inside one that answers
+// more than a bool, the test of each row would clear the words of that answer.
+#[inline(never)]
 pub fn is_plan(contacts: &[u64], contact_count: usize, ranges: &[u64], range_count: usize) -> bool
     ensures { Verdict (IsPlan contacts.now contact_count ranges.now range_count) result }
 {
