@@ -50,24 +50,22 @@ impl<'a> Booked<'a> {
     }
 }
 
-// Whether each contact of the chain is one of so many.
+// Whether each contact of the chain is one of so many. A number is widened first, so that both its bounds are one comparison.
 fn are_named(chain: &[u16], contact_count: usize) -> bool
     ensures { result ≡ list_all (λ no. leb 1 no && leb no contact_count) chain.now }
 {
-    chain
-        .iter()
-        .all(|&no| (1 <= no) & (usize::from(no) <= contact_count))
+    chain.iter().all(|no| {
+        let no = usize::from(*no);
+        (1 <= no) & (no <= contact_count)
+    })
 }
 
-// Whether the number is one of these. `contains` takes its time to begin, so the first is looked at by itself: a chain that
-// names one contact again and again is told by it.
+// Whether the number is one of these. The library's `contains` is quicker along many that it is none of, but takes its time to
+// begin, which each number of a chain would pay that names the same contacts again and again.
 fn is_among(numbers: &[u16], no: u16) -> bool
     ensures { result ≡ list_any (λ x. x == no) numbers.now }
 {
-    match numbers.first() {
-        Some(first) => *first == no || numbers.contains(&no),
-        None => false,
-    }
+    numbers.iter().any(|x| *x == no)
 }
 
 // Takes so many bytes from what is left on one contact.
